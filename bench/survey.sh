@@ -1,9 +1,10 @@
 #!/bin/bash
 # bench/survey.sh [FOLDER..]: how many calls of macros in real files the expander can expand: by the file alone,
 # behind the macros of std, and behind those and the ones of the file's crate that are in scope. For each it prints
-# the calls that have a definition in sight by bench/survey/scope.py, and those that the program expands; a file
-# has those that differ. It then holds calls of std's macros, expanded by one level, beside rustc's under the same
-# text of the definitions, and some texts behind std beside the right answers.
+# the calls that have a definition in sight by bench/survey/scope.py, and those that the program expands. Of each call
+# that has a definition in sight and is not expanded it tells what the program reports and what rustc says, and a file
+# has them all. It then holds calls of std's macros, expanded by one level, beside rustc's under the same text of the
+# definitions, and some texts behind std beside the right answers.
 # With no FOLDER it takes those of Debian's packages (`apt-get install librust-*-dev rust-src`) and of cargo; rustc's
 # own tests, of which many are meant to be wrong, are counted apart. STD is the folder `library` of an installed
 # rust-src: by default that of rustc's own, else of /usr/src/rustc-*. FILGORDD is the program, by default that of
@@ -15,6 +16,9 @@ parts=$top/bench/survey
 export PYTHONPATH=$parts:$top/bench/agreement PYTHONDONTWRITEBYTECODE=1
 year=${YEAR:-2021}
 folders=("$@")
+for folder in "$@"; do
+    [ -d "$folder" ] || { echo "survey: there is no folder $folder" >&2; exit 2; }
+done
 if [ $# = 0 ]; then
     for folder in /usr/share/cargo/registry /usr/src/rustc-* ~/.cargo/registry/src; do
         [ -d "$folder" ] && folders+=("$folder")
@@ -39,8 +43,9 @@ rustc --version
 echo "std: $std"
 python3 "$parts/count.py" "$program" "$std" "$work/out" "${folders[@]}" || exit 2
 python3 "$parts/beside_rustc.py" cut "$work/out" "$std" || exit 2
-for part in stays std; do
-    python3 "$top/bench/agreement/judge.py" "$work/out/$part" "$year" || exit 2
+python3 "$top/bench/agreement/judge.py" "$work/out/std" "$year" || exit 2
+for folder in "$work/out/stays"/*; do
+    [ ! -d "$folder" ] || python3 "$top/bench/agreement/judge.py" "$folder" "${folder##*/}" || exit 2
 done
 python3 "$parts/beside_rustc.py" stays "$work/out" || exit 2
 python3 "$parts/beside_rustc.py" std "$work/out" "$std" "$program" "$year" || exit 2

@@ -31,7 +31,9 @@ def crate(source):
         put(pair['definition'] + '\n')
         places.append([])
         for k, call in enumerate(pair['calls']):
-            put('mod filgordd_%d_%d { ' % (number, k))
+            # the name of a `macro` is no word of the modules below its own
+            use = 'use super::*; ' if pair['definition'].startswith('macro ') else ''
+            put('mod filgordd_%d_%d { %s' % (number, k, use))
             places[-1].append(at)
             put(call if call.endswith('}') else call + ';')
             put(' }\n')

@@ -2,19 +2,20 @@
 
     beside_rustc.py cut OUT LIBRARY                writes OUT/std for judge.py from OUT/std_calls.json
     beside_rustc.py std OUT LIBRARY PROGRAM YEAR   prints for how many of these the program gives the same tokens
-    beside_rustc.py stays OUT                      prints how many of the calls in OUT/stays rustc expands
+    beside_rustc.py stays OUT                      prints what rustc says of each call in OUT/stays.json
 
 Those where it is otherwise are added to OUT/differs. LIBRARY is the folder of std's sources: both sides have the
 definitions of its text. Each call is expanded by one level, by itself. The normal form is that of
 bench/agreement/compare.py, and `$crate` is the word that the program prints for it.
 """
-import json, os, sys
+import json, os, sys, tempfile
 from collections import Counter
 from glob import glob
 from ask import Prelude, expand, has_options, std_picks
 from compare import verdict
-from count import write_pairs
+from count import MODES, write_pairs
 from cut import spread
+from judge import asked, crate
 
 MOST_LETTERS = 2000
 SAYS = {'no rule matches this call': 'CannotExpand', 'broken macro definition': 'BrokenDefinition'}
@@ -59,9 +60,13 @@ def std(out, library, program, year):
         if not v.startswith('same'):
             others.append('%s: %s\n    rustc: %s\n    ours:  %s %s' % (v, call, rustc, *ours))
     same = sum(n for v, n in counts.items() if v.startswith('same'))
-    print('%d of %d calls of std\'s macros have the tokens that rustc gives' % (same, sum(counts.values())))
+    refused = counts['both refuse']
+    print('of %d calls of std\'s macros both refuse %d, and %d of %d others have the tokens that rustc gives'
+          % (sum(counts.values()), refused, same, sum(counts.values()) - refused))
     for v, n in sorted(counts.items()):
         print('    %6d %s' % (n, v))
+    for line in others:
+        print('    ' + line.replace('\n', '\n    '))
     add(out, others)
 
 
@@ -70,11 +75,44 @@ def add(out, lines):
         f.writelines(line + '\n' for line in lines)
 
 
+def rejects(definition, edition):
+    """Whether rustc reports an error in this definition, which nothing calls."""
+    text = crate({'pairs': [{'definition': definition, 'calls': []}]})[0]
+    start = len(text[:text.index(definition)].encode())
+    with tempfile.NamedTemporaryFile('w', suffix='.rs') as f:
+        f.write(text)
+        f.flush()
+        return any(at >= start for at in asked(f.name, edition)[1])
+
+
+def rustc_says(stay, outcome):
+    if stay['around'] and stay['around'].startswith('quote'):
+        return 'takes it as tokens'
+    said = {'gives': 'expands it', 'refuses': 'refuses it'}.get((outcome or [''])[0], 'does not reach it')
+    return said + (', and rejects the definition' if rejects(stay['definition'], stay['edition']) else '')
+
+
 def stays(out):
-    found = list(pairs_of(out, 'stays'))
-    taken = [call for _, _, call, rustc in found if rustc and rustc[0] == 'gives']
-    print('rustc expands %d of %d different calls that are in sight and stay' % (len(taken), len(found)))
-    add(out, ['rustc expands: ' + call for call in taken])
+    """Each call that is in sight and stays: what the program reports, and what rustc says of the call by itself, in
+    the file's edition, with the nearest definition. The argument of `quote!` is tokens to rustc."""
+    found = json.load(open(os.path.join(out, 'stays.json')))
+    for path in glob(os.path.join(out, 'stays', '*', '*.json')):
+        for pair in json.load(open(path))['pairs']:
+            stay = found[pair['stay']]
+            stay['rustc'] = rustc_says(stay, pair['rustc'][0])
+    for kind in sorted({stay['kind'] for stay in found}):
+        rows = {}
+        for stay in found:
+            if stay['kind'] == kind:
+                where = 'in an argument' if stay['around'] else 'nearer in a group' if stay['nearer'] else ''
+                row = rows.setdefault((stay['fault'], stay['rustc'], where), Counter())
+                row.update(stay['modes'])
+                row['calls'] += 1
+        print('%s: calls that are in sight and stay' % kind)
+        print('    %7s %7s %13s  the program reports; rustc' % MODES)
+        for (fault, rustc, where), row in sorted(rows.items(), key=lambda r: -r[1]['calls']):
+            print('    %7d %7d %13d  %s; %s%s' % (*(row[mode] for mode in MODES), fault, rustc, where and '; ' + where))
+    add(out, ['%s:%d: %s! stays: %s; rustc %s' % (s['path'], s['line'], s['macro'], s['fault'], s['rustc']) for s in found])
 
 
 if __name__ == '__main__':

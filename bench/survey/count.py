@@ -13,9 +13,9 @@ Names that stand behind a path and names that do not are held apart. A call that
 with that one. A call whose name nothing defines stays, so a file that has no other is not run.
 
 Definitions in groups are none to the expander, which then expands a call by one that is farther: Rust's rules find
-a nearer definition. OUT/differs gets the calls whose two answers differ. OUT/stays gets those of them that have a
-definition and stay, for rustc, but for those in arguments: there a macro may take them as tokens. OUT/std_calls.json
-gets the calls of std's macros.
+a nearer definition. OUT/differs gets the calls whose two answers differ. OUT/stays.json gets those of them that have a
+definition and stay, each with the fault that the program reports at it, and OUT/stays the same for rustc, by edition,
+with the nearest definition. OUT/std_calls.json gets the calls of std's macros.
 """
 import json, os, re, sys
 from collections import Counter
@@ -125,20 +125,21 @@ class Question:
     """A file behind definitions of other files."""
     def __init__(self, program, file, prelude):
         self.program, self.file, self.prelude = program, file, prelude
-        self.printed = self.ask(())
+        self.printed, said = self.ask(())
+        self.faults = dict(line.partition(': ')[::2] for line in said.splitlines())
 
     def ask(self, calls):
-        """What is printed where these calls have a name that nothing defines."""
+        """What is printed where these calls have a name that nothing defines, and what is said."""
         text = self.file.source.text
         for call in sorted(calls, key=lambda c: -c.start):
             text = text[:call.name_end] + MARK + text[call.name_end:]
-        return expand(self.program, text, self.file.edition, self.prelude)[0]
+        return expand(self.program, text, self.file.edition, self.prelude)
 
     def stay(self, calls):
         """Those of these calls that stay, or are dropped."""
         if not calls:
             return set()
-        printed = self.ask(calls)
+        printed, _ = self.ask(calls)
         if printed is not None and printed.replace(MARK, '') == self.printed:
             return set(calls)
         if len(calls) == 1:
@@ -148,15 +149,23 @@ class Question:
 
 
 def expanded(program, file, mode, library):
-    """The calls that are expanded; nothing if the program gives no answer for the file."""
+    """The calls that are expanded, and the faults by place; nothing if the program gives no answer for the file."""
     known = file.known(mode)
     calls = [c for c in file.source.calls if c.name in known]
     if not calls:
-        return set()
+        return set(), {}
     question = Question(program, file, file.prelude(mode, library))
     if question.printed is None:
         return None
-    return set(calls) - question.stay(staying(question.printed, calls))
+    return set(calls) - question.stay(staying(question.printed, calls)), question.faults
+
+
+def fault_of(call, faults):
+    """What the program reports at this call, or else at the nearest one around it."""
+    if call.place() in faults:
+        return faults[call.place()]
+    around = [c for c in call.source.calls if c.start < call.start < c.end and c.place() in faults]
+    return faults[around[-1].place()] + ', of the call around it' if around else 'no fault'
 
 
 class Survey:
@@ -180,10 +189,11 @@ class Survey:
         for call in calls:
             if kind == 'real code' and file.places[call] == 'std':
                 self.std_calls.setdefault(call.name, set()).add(call.text())
-        for mode, got in answers.items():
-            self.compare(sums, mode, path, file, got, kind == 'real code')
+        for mode, answer in answers.items():
+            self.compare(sums, mode, path, file, answer, kind)
 
-    def compare(self, sums, mode, path, file, got, is_real):
+    def compare(self, sums, mode, path, file, answer, kind):
+        got, faults = answer
         for call in file.source.calls:
             definition, is_nearest = file.definition(mode, call)
             sums['in sight', mode] += definition is not None
@@ -192,11 +202,19 @@ class Survey:
             if definition and call not in got:
                 sums['in an argument' if call.around else 'stays', mode] += 1
                 self.differ('stays' + (' in %s!' % call.around if call.around else ''), mode, path, call)
-                if is_real and not call.around:
-                    self.stays.setdefault((definition.name, definition.text()), set()).add(call.text())
+                self.stay(mode, path, file.edition, call, definition, fault_of(call, faults), kind)
             if call in got and not definition:
                 sums['more', mode] += 1
                 self.differ('expanded', mode, path, call)
+
+    def stay(self, mode, path, edition, call, definition, fault, kind):
+        """Keeps a call that stays, with the definition that Rust finds if that is in the file."""
+        nearest = call.found if call.found and not call.found.builtin else definition
+        known = self.stays.setdefault((path, call.start), {
+            'kind': kind, 'path': path, 'line': call.line(), 'around': call.around, 'edition': edition,
+            'macro': call.name, 'nearer': nearest is not definition, 'definition': nearest.text(),
+            'call': call.text(), 'fault': fault, 'modes': []})
+        known['modes'].append(mode)
 
     def differ(self, what, mode, path, call):
         self.differs.append('%s, by %s: %s:%d: %s' % (what, mode, path, call.line(), call.name))
@@ -224,8 +242,13 @@ class Survey:
             f.writelines(line + '\n' for line in self.differs)
         with open(os.path.join(out, 'std_calls.json'), 'w') as f:
             json.dump({name: sorted(calls) for name, calls in sorted(self.std_calls.items())}, f)
-        write_pairs(os.path.join(out, 'stays'), [{'macro': name, 'definition': text, 'calls': sorted(calls)}
-                                                 for (name, text), calls in self.stays.items()])
+        stays = list(self.stays.values())
+        with open(os.path.join(out, 'stays.json'), 'w') as f:
+            json.dump(stays, f)
+        for edition in {stay['edition'] for stay in stays}:
+            pairs = [{'macro': stay['macro'], 'definition': stay['definition'], 'calls': [stay['call']], 'stay': number}
+                     for number, stay in enumerate(stays) if stay['edition'] == edition]
+            write_pairs(os.path.join(out, 'stays', edition), pairs)
 
 
 def write_pairs(folder, pairs):

@@ -44,6 +44,11 @@ class Call:
     def line(self):
         return self.source.text.count('\n', 0, self.start) + 1
 
+    def place(self):
+        """Where the program reports a fault of this call."""
+        before = self.source.text[self.source.text.rfind('\n', 0, self.start) + 1:self.start]
+        return 'line %d, byte column %d' % (self.line(), len(before.encode()) + 1)
+
 
 class Source:
     """A file: its calls outside definitions, and what is in scope where it starts."""
