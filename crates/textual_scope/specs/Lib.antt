@@ -3,3 +3,6 @@ pub mod Scoping
 pub mod ScopedMeaning
 -- what the laws rest on
 pub mod Keywords
+pub mod ScopeChanges
+-- what conditional compilation leaves out; no meaning takes it yet
+pub mod Conditions

@@ -1,4 +1,4 @@
--- Rust's textual scope, as tokens show it: definitions in lists of trees, and those that expansions
+-- Rust's textual scope, as tokens show it: definitions in lists of trees, and those that calls
 -- make. (The Rust Reference, "Macros By Example", "Scoping, exporting, and importing".)
 use Rattle.std.specs.Prelude.{ℕ, zero, suc, Bool, true, false, List, [], ◌∷◌, ◌++◌, Option, Some, None, unwrap_or, if◌then◌else◌}
 use Rattle.tt_data.specs.Forest.{Forest, size}

@@ -1,12 +1,17 @@
 //! Laws of scopes. Calling a law does nothing: its contract is the statement.
-ghost use Rattle.std.specs.Prelude.{◌≡◌, ℕ, ◌<◌, All, List, [], ◌++◌, Option, Some, Ok};
-ghost use Rattle.tt_data.specs.Forest.{Forest, size};
+ghost use Rattle.std.specs.Prelude.{◌≡◌, ℕ, ◌<◌, All, Bool, false, List, [], ◌++◌, Option, Some, None, Ok};
+ghost use Rattle.tt_data.specs.Forest.{Forest, map_spans, size};
+ghost use Rattle.tt_data.specs.Literals.{LiteralParts};
 ghost use Rattle.tt_data.specs.declared.span.Span.{Span};
-ghost use Rattle.expander_model.specs.Definitions.{Definition, definition_of};
+ghost use Rattle.expander_model.specs.Changes.{Changes, ScopeChange};
+ghost use Rattle.expander_model.specs.Definitions.{Definition, after_attribute, definition_of};
 ghost use Rattle.expander_model.specs.Expansion.{World, expansion, just};
 ghost use Rattle.expander_model.specs.Meaning.{Layers, meaning_in};
+ghost use Rattle.expander_model.specs.OtherPlaces.{definition_with};
 ghost use Rattle.expander_model.specs.Pieces.{pieces};
+ghost use Rattle.textual_scope.specs.Conditions.{Options, definition_under, is_configured_out};
 ghost use Rattle.textual_scope.specs.Keywords.{AddsNoKeyword, HasNoKeyword, NestsNone};
+ghost use Rattle.textual_scope.specs.ScopeChanges.{around_with, scoped_with};
 ghost use Rattle.textual_scope.specs.ScopedMeaning.{scoped_meaning};
 ghost use Rattle.textual_scope.specs.Scoping.{Around, Scoped, Search, Standing, and_next, only, scoped, search_list, search_parts, without_locals};
 ghost use Rattle.textual_scope.specs.declared.scope_rules.ScopeRules.{ScopeRules};
@@ -25,8 +30,8 @@ pub fn top_level_scope_is_as_before()
 {}
 
 /// Trees without a definition keyword are expanded under both rules alike, and define nothing, if
-/// the definitions in scope give none: `lists`. A text means the same under both rules, if no piece
-/// of it but definitions has a keyword, and they and those before it give none: `texts`.
+/// the definitions in scope give none: `lists`. A text means the same under both rules, if no
+/// piece of it but definitions has a keyword, and they and those before it give none: `texts`.
 pub fn without_keywords_both_rules_agree()
     ensures lists { (world : World Definition) (local : Definition → Definition)
         (scope : List ℕ → Option Definition) (depth : ℕ) (standing : Standing)
@@ -52,6 +57,18 @@ pub fn expansions_depend_on_outer_lookups_alone()
         ≡ scoped rules world local scope depth around f }
 {}
 
+/// A world is another with `f` applied to each span, and `h` to each definition that is looked up.
+/// Then a list at spans that `f` gives is expanded as at its own, and `f` and `h` applied.
+pub fn scoped_expansions_at_other_spans()
+    ensures { (rules : ScopeRules) (f : Span → Span) (h : Definition → Definition)
+        (one two : World Definition) (local moved : Definition → Definition)
+        (scope changed : List ℕ → Option Definition) (depth : ℕ) (around : Around) (g : Forest) →
+        Changes f h one two → ScopeChange h scope changed →
+        ((d : Definition) → moved (definition_with f d) ≡ h (local d)) →
+        scoped rules two moved changed depth (around_with f around) (map_spans f g)
+        ≡ scoped_with f h (scoped rules one local scope depth around g) }
+{}
+
 /// With more steps than a list has tokens a search of it gives the same, however many they are.
 pub fn more_steps_change_nothing()
     ensures { (rules : ScopeRules) (world : World Definition) (local : Definition → Definition)
@@ -63,8 +80,8 @@ pub fn more_steps_change_nothing()
 {}
 
 /// Of three results, one after another, it does not matter which two are put together first:
-/// `three`. Nothing before or after a result changes it: `before`, `after`. The parts of two lists,
-/// one after another, are searched list by list: `lists`.
+/// `three`. Nothing before or after a result changes it: `before`, `after`. The parts of two
+/// lists, one after another, are searched list by list: `lists`.
 pub fn results_follow_one_another()
     ensures three { (a : Scoped Definition) (f g : Around → Scoped Definition) (around : Around) →
         and_next (and_next a f around) g around
@@ -80,4 +97,16 @@ pub fn results_follow_one_another()
         search_parts rules world local scope search deeper around (front ++ back)
         ≡ and_next (search_parts rules world local scope search deeper around front)
         (λ here. search_parts rules world local scope search deeper here back) around }
+{}
+
+/// A piece without an outer attribute at its beginning is not left out: `others`. A piece that is
+/// not left out is the definition that it was, or none as before: `definitions`.
+pub fn conditions_leave_other_pieces_alone()
+    ensures others { (options : Options) (text : LiteralParts → Option (List ℕ)) (items : Bool)
+        (piece : Forest) →
+        after_attribute piece ≡ None → is_configured_out options text items piece ≡ false }
+    ensures definitions { (options : Options) (text : LiteralParts → Option (List ℕ))
+        (items : Bool) (piece : Forest) →
+        is_configured_out options text items piece ≡ false →
+        definition_under options text piece ≡ definition_of piece }
 {}

@@ -1,0 +1,248 @@
+-- A search at other spans gives its result at these.
+use Rattle.std.proofs.Common.{◌≡◌, ℕ, zero, suc, Bool, true, false, List, [], ◌∷◌, ◌++◌, map, Option, Some, None, refl, ap, sym, ◌∙◌, unwrap_or, option_map, if◌then◌else◌}
+use Rattle.std.proofs.lemmas.List.{map-append}
+use Rattle.tt_data.specs.Forest.{Forest, empty, leaf, group, map_spans, size}
+use Rattle.tt_data.specs.Spans.{leaf_with, delimiter_with}
+use Rattle.tt_data.specs.Walk.{at_leaf, walk}
+use Rattle.tt_data.proofs.ForestLemmas.{size-map_spans}
+use Rattle.tt_data.specs.declared.delimiter.Delimiter.{Delimiter}
+use Rattle.tt_data.specs.declared.leaf.Ident.{Ident}
+use Rattle.tt_data.specs.declared.leaf.Leaf.TheVariants as as_leaf
+use Rattle.tt_data.specs.declared.leaf.Punct.{Punct}
+use Rattle.tt_data.specs.declared.span.Span.{Span}
+use Rattle.bridge.specs.Text.{is_visible}
+use Rattle.small_grammar.specs.Text.{same_text}
+use Rattle.expander_model.specs.declared.fault.FaultKind.TheVariants.{CannotExpand, BrokenDefinition, RecursionLimit}
+use Rattle.expander_model.specs.Calls.{Path, bare, from_crate, other, Marked, none, token, inside, call, marked, unmarked, key_of}
+use Rattle.expander_model.specs.Changes.{outcome_with, Changes, ScopeChange}
+use Rattle.expander_model.specs.Definitions.{Definition, nearest}
+use Rattle.expander_model.specs.Expansion.{World, Outcome, CallSite, just, followed_by, grouped, faulted, found, bursting, before_group, whole_call}
+use Rattle.expander_model.specs.OtherPlaces.{definition_with}
+use Rattle.expander_model.proofs.DefinitionPlaceLemmas.{definition_of-with}
+use Rattle.textual_scope.specs.declared.scope_rules.ScopeRules.{ScopeRules}
+use Rattle.textual_scope.specs.declared.scope_rules.ScopeRules.TheVariants.{TopLevel, Rust}
+use Rattle.textual_scope.specs.ScopeChanges.{around_with, scoped_with}
+use Rattle.textual_scope.specs.Scoping.{Around, Standing, top, enclosed, argument, Scoped, Search, parts, definition_in, is_left_out, in_group, behind, only, and_next, in_brackets, defined, fitted, at_level, unbroken, looked_up, at_key, at_call, kept_call, search_trees, search_part, search_parts, search_list, scoped}
+use Rattle.textual_scope.proofs.MarkChangeLemmas.{ident_with, punct_with, path_with, marked_with, marked-with, in_front-with, unmarked-with, cut-with, outer-with, site_with, followed-with, just-with, walk-with, grouped-with, stays-with}
+use Rattle.textual_scope.proofs.ResultLemmas.{scoped_same}
+
+-- the definition that a name finds, among these at other spans
+nearest-with : (f : Span → Span) (locals : List Definition) (name : List ℕ) → nearest (map (definition_with f) locals) name ≡ option_map (definition_with f) (nearest locals name)
+nearest-with f [] name = refl
+nearest-with f (d ∷ locals) name =
+    elim (same_text d.name.sym name) as
+    (λ b. (if b then Some (definition_with f d) else nearest (map (definition_with f) locals) name) ≡ option_map (definition_with f) (if b then Some d else nearest locals name))
+    [ true ↦ refl | false ↦ nearest-with f locals name ]
+
+parts-with : (f : Span → Span) (rules : ScopeRules) (g : Forest) → parts rules (map_spans f g) ≡ map (map_spans f) (parts rules g)
+parts-with f TopLevel g = refl
+parts-with f Rust g = cut-with f g
+
+definition_in-with : (f : Span → Span) (rules : ScopeRules) (g : Forest) → definition_in rules (map_spans f g) ≡ option_map (definition_with f) (definition_in rules g)
+definition_in-with f TopLevel g = refl
+definition_in-with f Rust g = definition_of-with f g
+
+behind-with : (f : Span → Span) (ds : List Definition) (around : Around) → behind (map (definition_with f) ds) (around_with f around) ≡ around_with f (behind ds around)
+behind-with f ds around = ap (λ l. record { standing = around.standing; outer = option_map f around.outer; locals = l }) (sym (map-append (definition_with f) ds around.locals))
+
+in_group-with : (f : Span → Span) (d : Delimiter) (standing : Standing) → in_group (delimiter_with f d) standing ≡ in_group d standing
+in_group-with f d top = refl
+in_group-with f d enclosed = refl
+in_group-with f d argument = refl
+
+module _ {D E : Type 0} (f : Span → Span) (h : D → E) where
+  next-with : (a : Scoped D) (b : Scoped E) (one : Around → Scoped D) (two : Around → Scoped E) (around : Around)
+      → b ≡ scoped_with f h a → ((here : Around) → two (around_with f here) ≡ scoped_with f h (one here))
+      → and_next b two (around_with f around) ≡ scoped_with f h (and_next a one around)
+  next-with a b one two around e same =
+      let after : Scoped D = one (behind a.defines around) in
+      ap (λ (x : Scoped E). and_next x two (around_with f around)) e
+      ∙ ap (λ (here : Around). record { outcome = followed_by (outcome_with f h a.outcome) (two here).outcome; defines = (two here).defines ++ map (definition_with f) a.defines }) (behind-with f a.defines around)
+      ∙ ap (λ (x : Scoped E). record { outcome = followed_by (outcome_with f h a.outcome) x.outcome; defines = x.defines ++ map (definition_with f) a.defines }) (same (behind a.defines around))
+      ∙ scoped_same _ _ (sym (followed-with f h a.outcome after.outcome)) (sym (map-append (definition_with f) after.defines a.defines))
+
+  brackets-with : (outer : Option Span) (d : Delimiter) (a : Scoped D)
+      → in_brackets (option_map f outer) (delimiter_with f d) (scoped_with f h a) ≡ scoped_with f h (in_brackets outer d a)
+  brackets-with outer d a = scoped_same _ _ (grouped-with f h outer d a.outcome) (hides (is_visible d.kind))
+    where
+      hides : (b : Bool) → (if b then [] else map (definition_with f) a.defines) ≡ map (definition_with f) (if b then [] else a.defines)
+      hides true = refl
+      hides false = refl
+
+  only-with : (a : Outcome D) (b : Outcome E) → b ≡ outcome_with f h a → only b ≡ scoped_with f h (only a)
+  only-with a b e = ap only e
+
+  shown-with : (left : Bool) (outer : Option Span) (g : Forest)
+      → just {D = E} (option_map f outer) (if left then [] else walk (map_spans f g)) ≡ outcome_with f h (just outer (if left then [] else walk g))
+  shown-with true outer g = just-with f h outer []
+  shown-with false outer g = walk-with f h outer g
+
+  told-with : (broken left : Bool) (outer : Option Span) (d : Definition)
+      → (let shown : Outcome E = just (option_map f outer) (if left then [] else walk (map_spans f d.piece)) in
+      if broken then faulted BrokenDefinition (unwrap_or (option_map f outer) (f d.name.span)) shown else shown)
+      ≡ outcome_with f h (let shown : Outcome D = just outer (if left then [] else walk d.piece) in
+      if broken then faulted BrokenDefinition (unwrap_or outer d.name.span) shown else shown)
+  told-with false left outer d = shown-with left outer d.piece
+  told-with true left outer d =
+      ap (λ (s : Span). faulted BrokenDefinition s (just {D = E} (option_map f outer) (if left then [] else walk (map_spans f d.piece)))) (outer-with f outer d.name.span)
+      ∙ ap (faulted BrokenDefinition (f (unwrap_or outer d.name.span))) (shown-with left outer d.piece)
+
+  -- what searches a list gives the same at other spans
+  abbrev SameWith : Search D → Search E → Type 0
+  SameWith one two = (around : Around) (g : Forest) → two (around_with f around) (map_spans f g) ≡ scoped_with f h (one around g)
+
+  abbrev DeeperWith : Option (Search D) → Option (Search E) → Type 0
+  DeeperWith None None = Unit {0}
+  DeeperWith (Some one) (Some two) = SameWith one two
+  DeeperWith None (Some two) = ⊥
+  DeeperWith (Some one) None = ⊥
+
+  module _ (rules : ScopeRules) (w : World D) (v : World E) (c : Changes f h w v) (local : Definition → D) (local' : Definition → E) (made : (d : Definition) → local' (definition_with f d) ≡ h (local d))
+      (scope : List ℕ → Option D) (changed : List ℕ → Option E) (finds : ScopeChange h scope changed) where
+    defined-with : (around : Around) (d : Definition) → defined rules v local' changed (around_with f around) (definition_with f d) ≡ scoped_with f h (defined rules w local scope around d)
+    defined-with around d =
+        let left : Bool = is_left_out around.standing in
+        let shown : Outcome E = just (option_map f around.outer) (if left then [] else walk (map_spans f d.piece)) in
+        let told : Outcome E = faulted BrokenDefinition (unwrap_or (option_map f around.outer) (f d.name.span)) shown in
+        scoped_same _ _
+        (ap (λ (x : E). if v.broken x then told else shown) (made d)
+        ∙ ap (λ (b : Bool). if b then told else shown) (c.broken (local d))
+        ∙ told-with (w.broken (local d)) left around.outer d) refl
+
+    fitted-with : (one : Search D) (two : Search E) → SameWith one two → (around : Around) (site : CallSite) (r : Option Forest)
+        → fitted rules v local' changed two (around_with f around) (site_with f site) (option_map (map_spans f) r) ≡ scoped_with f h (fitted rules w local scope one around site r)
+    fitted-with one two same around site None = ap (λ (o : Outcome E). only o) (stays-with f h CannotExpand around.outer site)
+    fitted-with one two same around site (Some g) =
+        ap (λ (s : Span). two (record { standing = around.standing; outer = Some s; locals = map (definition_with f) around.locals }) (map_spans f g)) (outer-with f around.outer site.at)
+        ∙ same (record around { outer = Some (unwrap_or around.outer site.at) }) g
+
+    level-with : (d : D) (one : Option (Search D)) (two : Option (Search E)) → DeeperWith one two → (around : Around) (site : CallSite)
+        → at_level rules v local' changed (h d) two (around_with f around) (site_with f site) ≡ scoped_with f h (at_level rules w local scope d one around site)
+    level-with d None None same around site = ap (λ (o : Outcome E). only o) (stays-with f h RecursionLimit around.outer site)
+    level-with d (Some one) (Some two) same around site =
+        let here : Option Forest → Scoped E = λ r. fitted rules v local' changed two (around_with f around) (site_with f site) r in
+        ap (λ (b : Bool). let a : Scoped E = here (v.fit (h d) (map_spans f site.argument)) in record a { outcome = bursting b a.outcome }) (c.bursts d site.argument)
+        ∙ ap (λ (a : Scoped E). record a { outcome = bursting (w.bursts d site.argument) a.outcome })
+        (ap here (c.fit d site.argument) ∙ fitted-with one two same around site (w.fit d site.argument))
+    level-with d None (Some two) same around site = absurd same
+    level-with d (Some one) None same around site = absurd same
+
+    unbroken-with : (d : D) (b : Bool) (one : Option (Search D)) (two : Option (Search E)) → DeeperWith one two → (around : Around) (site : CallSite)
+        → unbroken rules v local' changed (h d) b two (around_with f around) (site_with f site) ≡ scoped_with f h (unbroken rules w local scope d b one around site)
+    unbroken-with d true one two same around site = ap (λ (o : Outcome E). only o) (stays-with f h BrokenDefinition around.outer site)
+    unbroken-with d false one two same around site = level-with d one two same around site
+
+    looked_up-with : (r : Option D) (one : Option (Search D)) (two : Option (Search E)) → DeeperWith one two → (around : Around) (site : CallSite)
+        → (kept : Scoped D) (kept' : Scoped E) → kept' ≡ scoped_with f h kept
+        → looked_up rules v local' changed (option_map h r) two (around_with f around) (site_with f site) kept' ≡ scoped_with f h (looked_up rules w local scope r one around site kept)
+    looked_up-with None one two same around site kept kept' e = e
+    looked_up-with (Some d) one two same around site kept kept' e =
+        ap (λ (b : Bool). unbroken rules v local' changed (h d) b two (around_with f around) (site_with f site)) (c.broken d)
+        ∙ unbroken-with d (w.broken d) one two same around site
+
+    key-with : (r : Option Definition) (key : List ℕ) (one : Option (Search D)) (two : Option (Search E)) → DeeperWith one two → (around : Around) (site : CallSite)
+        → (kept : Scoped D) (kept' : Scoped E) → kept' ≡ scoped_with f h kept
+        → at_key rules v local' changed (option_map (definition_with f) r) key two (around_with f around) (site_with f site) kept'
+        ≡ scoped_with f h (at_key rules w local scope r key one around site kept)
+    key-with (Some d) key one two same around site kept kept' e =
+        ap (λ (x : E). looked_up rules v local' changed (Some x) two (around_with f around) (site_with f site) kept') (made d)
+        ∙ looked_up-with (Some (local d)) one two same around site kept kept' e
+    key-with None key one two same around site kept kept' e =
+        ap (λ (r : Option E). let a : Scoped E = looked_up rules v local' changed r two (around_with f around) (site_with f site) kept' in
+        record a { outcome = found key r a.outcome }) (finds key)
+        ∙ ap (λ (a : Scoped E). record a { outcome = found key (option_map h (scope key)) a.outcome }) (looked_up-with (scope key) one two same around site kept kept' e)
+
+    call-with : (path : Path) (name : Ident) (one : Option (Search D)) (two : Option (Search E)) → DeeperWith one two → (around : Around) (site : CallSite)
+        → (kept : Scoped D) (kept' : Scoped E) → kept' ≡ scoped_with f h kept
+        → at_call rules v local' changed two (around_with f around) (path_with f path) (ident_with f name) (site_with f site) kept'
+        ≡ scoped_with f h (at_call rules w local scope one around path name site kept)
+    call-with bare name one two same around site kept kept' e =
+        ap (λ (r : Option Definition). at_key rules v local' changed r name.sym two (around_with f around) (site_with f site) kept') (nearest-with f around.locals name.sym)
+        ∙ key-with (nearest around.locals name.sym) name.sym one two same around site kept kept' e
+    call-with (from_crate root p q) name one two same around site kept kept' e = key-with None (key_of (from_crate root p q) name) one two same around site kept kept' e
+    call-with (other p q) name one two same around site kept kept' e = e
+
+    module _ (one : Search D) (two : Search E) (same : SameWith one two) (deep : Option (Search D)) (deep' : Option (Search E)) (deeper : DeeperWith deep deep') where
+      kept-with : (around : Around) (path : Path) (name : Ident) (bang : Punct) (d : Delimiter) (inner : Forest)
+          → kept_call rules v local' changed two (around_with f around) (path_with f path) (ident_with f name) (punct_with f bang) (delimiter_with f d) (map_spans f inner)
+          ≡ scoped_with f h (kept_call rules w local scope one around path name bang d inner)
+      kept-with around path name bang d inner =
+          let lead : Outcome D = just around.outer (walk (before_group path name bang)) in
+          let held : Scoped D = one (record around { standing = argument }) inner in
+          let lead' : Outcome E = just (option_map f around.outer) (walk (before_group (path_with f path) (ident_with f name) (punct_with f bang))) in
+          let in_it : Scoped E → Outcome E = λ a. grouped (option_map f around.outer) (delimiter_with f d) a.outcome in
+          let lead_is : lead' ≡ outcome_with f h lead =
+          ap (λ (g : Forest). just {D = E} (option_map f around.outer) (walk g)) (in_front-with f path (leaf (as_leaf.Ident name) (leaf (as_leaf.Punct bang) empty)))
+          ∙ walk-with f h around.outer (before_group path name bang) in
+          only-with (followed_by lead (grouped around.outer d held.outcome)) _
+          (ap (λ (a : Scoped E). followed_by lead' (in_it a)) (same (record around { standing = argument }) inner)
+          ∙ ap (λ (o : Outcome E). followed_by o (in_it (scoped_with f h held))) lead_is
+          ∙ ap (followed_by (outcome_with f h lead)) (grouped-with f h around.outer d held.outcome)
+          ∙ sym (followed-with f h lead (grouped around.outer d held.outcome)))
+
+      trees-with : (around : Around) (m : Marked)
+          → search_trees rules v local' changed two deep' (around_with f around) (marked_with f m) ≡ scoped_with f h (search_trees rules w local scope one deep around m)
+      trees-with around none = ap (λ (o : Outcome E). only o) (just-with f h around.outer [])
+      trees-with around (token l rest) =
+          next-with (only (just around.outer (at_leaf l ∷ []))) (only (just (option_map f around.outer) (at_leaf (leaf_with f l) ∷ [])))
+          (λ here. search_trees rules w local scope one deep here rest) (λ here. search_trees rules v local' changed two deep' here (marked_with f rest))
+          around (only-with (just around.outer (at_leaf l ∷ [])) _ (just-with f h around.outer (at_leaf l ∷ []))) (λ here. trees-with here rest)
+      trees-with around (inside d a rest) =
+          let inner : Around = record around { standing = in_group d around.standing } in
+          let within : Standing → Forest → Scoped E = λ s g. two (record { standing = s; outer = option_map f around.outer; locals = map (definition_with f) around.locals }) g in
+          next-with (in_brackets around.outer d (one inner (unmarked a)))
+          (in_brackets (option_map f around.outer) (delimiter_with f d) (within (in_group (delimiter_with f d) around.standing) (unmarked (marked_with f a))))
+          (λ here. search_trees rules w local scope one deep here rest) (λ here. search_trees rules v local' changed two deep' here (marked_with f rest))
+          around
+          (ap (in_brackets (option_map f around.outer) (delimiter_with f d))
+          (ap (λ s. within s (unmarked (marked_with f a))) (in_group-with f d around.standing) ∙ ap (within (in_group d around.standing)) (unmarked-with f a) ∙ same inner (unmarked a))
+          ∙ brackets-with around.outer d (one inner (unmarked a)))
+          (λ here. trees-with here rest)
+      trees-with around (call path name bang d a rest) =
+          let site : CallSite = record { at = name.span; whole = whole_call path name bang d (unmarked a); argument = unmarked a } in
+          let kept : Scoped D = kept_call rules w local scope one around path name bang d (unmarked a) in
+          let kept' : Forest → Scoped E = λ g. kept_call rules v local' changed two (around_with f around) (path_with f path) (ident_with f name) (punct_with f bang) (delimiter_with f d) g in
+          let there : Forest → Forest → Scoped E = λ whole g.
+          at_call rules v local' changed deep' (around_with f around) (path_with f path) (ident_with f name) (record { at = f name.span; whole = whole; argument = g }) (kept' g) in
+          let whole' : Forest → Forest = λ g. whole_call (path_with f path) (ident_with f name) (punct_with f bang) (delimiter_with f d) g in
+          next-with (at_call rules w local scope deep around path name site kept) (there (whole' (unmarked (marked_with f a))) (unmarked (marked_with f a)))
+          (λ here. search_trees rules w local scope one deep here rest) (λ here. search_trees rules v local' changed two deep' here (marked_with f rest))
+          around
+          (ap (λ g. there (whole' g) g) (unmarked-with f a)
+          ∙ ap (λ whole. there whole (map_spans f (unmarked a))) (in_front-with f path (leaf (as_leaf.Ident name) (leaf (as_leaf.Punct bang) (group d (unmarked a) empty))))
+          ∙ call-with path name deep deep' deeper around site kept (kept' (map_spans f (unmarked a))) (kept-with around path name bang d (unmarked a)))
+          (λ here. trees-with here rest)
+
+      part-with : (around : Around) (p : Forest) (d : Option Definition)
+          → search_part rules v local' changed two deep' (around_with f around) (map_spans f p) (option_map (definition_with f) d)
+          ≡ scoped_with f h (search_part rules w local scope one deep around p d)
+      part-with around p (Some d) = defined-with around d
+      part-with around p None =
+          ap (search_trees rules v local' changed two deep' (around_with f around)) (marked-with f p) ∙ trees-with around (marked p)
+
+      parts_of-with : (around : Around) (ps : List Forest)
+          → search_parts rules v local' changed two deep' (around_with f around) (map (map_spans f) ps) ≡ scoped_with f h (search_parts rules w local scope one deep around ps)
+      parts_of-with around [] = ap (λ (o : Outcome E). only o) (just-with f h around.outer [])
+      parts_of-with around (p ∷ ps) =
+          next-with (search_part rules w local scope one deep around p (definition_in rules p))
+          (search_part rules v local' changed two deep' (around_with f around) (map_spans f p) (definition_in rules (map_spans f p)))
+          (λ here. search_parts rules w local scope one deep here ps) (λ here. search_parts rules v local' changed two deep' here (map (map_spans f) ps))
+          around
+          (ap (search_part rules v local' changed two deep' (around_with f around) (map_spans f p)) (definition_in-with f rules p) ∙ part-with around p (definition_in rules p))
+          (λ here. parts_of-with here ps)
+
+    list-with : (deep : Option (Search D)) (deep' : Option (Search E)) → DeeperWith deep deep' → (n : ℕ)
+        → SameWith (search_list rules w local scope deep n) (search_list rules v local' changed deep' n)
+    list-with deep deep' deeper zero around g = ap (λ (o : Outcome E). only o) (just-with f h around.outer [])
+    list-with deep deep' deeper (suc n) around g =
+        ap (search_parts rules v local' changed (search_list rules v local' changed deep' n) deep' (around_with f around)) (parts-with f rules g)
+        ∙ parts_of-with (search_list rules w local scope deep n) (search_list rules v local' changed deep' n) (list-with deep deep' deeper n) deep deep' deeper around (parts rules g)
+
+    -- the law
+    pub scoped-with : (n : ℕ) → SameWith (scoped rules w local scope n) (scoped rules v local' changed n)
+    scoped-with zero around g =
+        ap (λ k. search_list rules v local' changed None (suc k) (around_with f around) (map_spans f g)) (size-map_spans f g)
+        ∙ list-with None None tt (suc (size g)) around g
+    scoped-with (suc n) around g =
+        ap (λ k. search_list rules v local' changed (Some (scoped rules v local' changed n)) (suc k) (around_with f around) (map_spans f g)) (size-map_spans f g)
+        ∙ list-with (Some (scoped rules w local scope n)) (Some (scoped rules v local' changed n)) (scoped-with n) (suc (size g)) around g

@@ -1,0 +1,180 @@
+-- Conditional compilation: which pieces of a list are left out. (The Rust Reference, "Conditional
+-- compilation"; items: "Items".)
+use Rattle.std.specs.Prelude.{ℕ, zero, suc, ◌-◌, Bool, true, false, ◌&&◌, ◌||◌, not, List, [], ◌∷◌, Option, Some, None, option_map, unwrap_or, is_some, codes, nat_eq, if◌then◌else◌}
+use Rattle.std.specs.List.{list_all, list_any}
+use Prim.Native.String.{String}
+use Rattle.tt_data.specs.Forest.{Forest, empty, leaf, group, joined, size}
+use Rattle.tt_data.specs.Literals.{LiteralParts}
+use Rattle.tt_data.specs.declared.delimiter.DelimiterKind.TheVariants.{Parenthesis, Brace, Bracket}
+use Rattle.tt_data.specs.declared.leaf.Leaf.{Leaf}
+use Rattle.tt_data.specs.declared.leaf.Leaf.TheVariants as as_leaf
+use Rattle.tt.specs.FirstTrees.{first_group}
+use Rattle.bridge.specs.Text.{is_char, is_punct, same_kind}
+use Rattle.small_grammar.specs.Text.{is_word, is_empty, ◌>>=◌, ◌>>◌}
+use Rattle.expander_model.specs.Calls.{Marked, call, marked, unmarked}
+use Rattle.expander_model.specs.Definitions.{Definition, after_attributes, after_pub, after_word, definition_of, is_semicolon, or_else}
+
+-- which options are set: a name alone, or a name with a value
+abbrev pub Options : Type 0
+Options = List ℕ → Option (List ℕ) → Bool
+
+-- trees cut at each comma, where `begun` came since the last one; one at the end cuts nothing off
+abbrev pub cut_at_commas : Forest → Forest → List Forest
+cut_at_commas empty empty = []
+cut_at_commas empty begun = begun ∷ []
+cut_at_commas (leaf l rest) begun =
+    if is_punct "," l then begun ∷ cut_at_commas rest empty
+    else cut_at_commas rest (joined begun (leaf l empty))
+cut_at_commas (group d inner rest) begun = cut_at_commas rest (joined begun (group d inner empty))
+
+-- what is between commas in the parentheses after this word, if nothing else is there
+abbrev pub listed : String → Forest → Option (List Forest)
+listed word f = do
+  after ← after_word (codes word) f
+  (d, inner, rest) ← first_group after
+  same_kind d.kind Parenthesis && is_empty rest
+  Some (cut_at_commas inner empty)
+
+-- the values of all of these, if each has one
+abbrev pub each_value : (Forest → Option Bool) → List Forest → Option (List Bool)
+each_value value [] = Some []
+each_value value (p ∷ ps) = do
+  b ← value p
+  bs ← each_value value ps
+  Some (b ∷ bs)
+
+-- the values of what is in the parentheses after this word, by `value`
+abbrev pub listed_values : (Forest → Option Bool) → String → Forest → Option (List Bool)
+listed_values value word f = listed word f >>= each_value value
+
+-- of one value the other
+abbrev pub negated : List Bool → Option Bool
+negated (b ∷ []) = Some (not b)
+negated _ = None
+
+-- `options` are set; `text` is what a string literal stands for, and none of another literal
+module _ (options : Options) (text : LiteralParts → Option (List ℕ)) where
+  -- `true`, `false`, the name of an option, or a name, `=` and a string
+  abbrev pub option_value : Forest → Option Bool
+  option_value (leaf (as_leaf.Ident name) empty) =
+      Some (is_word "true" name || (not (is_word "false" name) && options name.sym None))
+  option_value
+      (leaf (as_leaf.Ident name) (leaf (as_leaf.Punct p) (leaf (as_leaf.Literal l) empty))) = do
+        is_char "=" p
+        value ← text l
+        Some (options name.sym (Some value))
+  option_value _ = None
+
+  -- the value of a predicate, or none if it is no predicate; `n` bounds how deep lists nest
+  abbrev pub value_within : ℕ → Forest → Option Bool
+  value_within zero p = None
+  value_within (suc n) p =
+      or_else (option_value p)
+      (or_else (option_map (list_all (λ b. b)) (listed_values (value_within n) "all" p))
+      (or_else (option_map (list_any (λ b. b)) (listed_values (value_within n) "any" p))
+      (listed_values (value_within n) "not" p >>= negated)))
+
+  abbrev pub predicate_value : Forest → Option Bool
+  predicate_value p = value_within (suc (size p)) p
+
+  -- `cfg` keeps what its one predicate is true of; with anything else it keeps it
+  abbrev pub cfg_keeps : Option (List Forest) → Bool
+  cfg_keeps (Some (p ∷ [])) = unwrap_or (predicate_value p) true
+  cfg_keeps _ = true
+
+  -- `cfg_attr` stands for its attributes if its predicate is true, and for none else
+  abbrev pub cfg_attr_keeps : (Forest → Bool) → Option (List Forest) → Bool
+  cfg_attr_keeps keeps (Some (p ∷ attributes)) =
+      not (unwrap_or (predicate_value p) false) || list_all keeps attributes
+  cfg_attr_keeps keeps _ = true
+
+  -- an attribute, by what is in its brackets, keeps what it stands at
+  abbrev pub attribute_keeps : ℕ → Forest → Bool
+  attribute_keeps zero a = true
+  attribute_keeps (suc n) a =
+      cfg_keeps (listed "cfg" a) && cfg_attr_keeps (attribute_keeps n) (listed "cfg_attr" a)
+
+  -- each outer attribute at the beginning of a piece keeps it
+  abbrev pub is_kept : Forest → Bool
+  is_kept (leaf (as_leaf.Punct p) (group d inner rest)) =
+      not (is_char "#" p && same_kind d.kind Bracket)
+      || (attribute_keeps (suc (size inner)) inner && is_kept rest)
+  is_kept _ = true
+
+-- ---- whole items
+
+-- how many `<` are open after a leaf, where `arrow` says that a `-` is right before it
+abbrev pub opened_after : ℕ → Bool → Leaf → ℕ
+opened_after n arrow l =
+    if is_punct "<" l then suc n else (if is_punct ">" l && not arrow then n - 1 else n)
+
+-- a brace group ends the trees, and no `<` is open before it
+abbrev pub ends_in_body : ℕ → Bool → Forest → Bool
+ends_in_body n arrow empty = false
+ends_in_body n arrow (leaf l rest) = ends_in_body (opened_after n arrow l) (is_punct "-" l) rest
+ends_in_body n arrow (group d inner empty) = nat_eq n 0 && same_kind d.kind Brace
+ends_in_body n arrow (group d inner rest) = ends_in_body n false rest
+
+abbrev pub ends_in_semicolon : Forest → Bool
+ends_in_semicolon empty = false
+ends_in_semicolon (leaf l empty) = is_punct ";" l
+ends_in_semicolon (leaf l rest) = ends_in_semicolon rest
+ends_in_semicolon (group d inner rest) = ends_in_semicolon rest
+
+-- one of these words, not raw, is at the beginning
+abbrev pub begins_with : List String → Forest → Bool
+begins_with words f = list_any (λ word. is_some (after_word (codes word) f)) words
+
+-- what follows the words that may be before `fn`, `trait`, `impl` or `mod`, and an ABI
+abbrev pub after_qualifiers : Forest → Forest
+after_qualifiers (leaf (as_leaf.Ident w) rest) =
+    if begins_with ("const" ∷ "async" ∷ "unsafe" ∷ "safe" ∷ "auto" ∷ "extern" ∷ [])
+    (leaf (as_leaf.Ident w) empty)
+    then after_qualifiers rest else leaf (as_leaf.Ident w) rest
+after_qualifiers (leaf (as_leaf.Literal l) rest) = after_qualifiers rest
+after_qualifiers f = f
+
+-- an item with a body, or without one and with `;`
+abbrev pub is_bodied : Forest → Bool
+is_bodied f =
+    begins_with ("fn" ∷ "struct" ∷ "enum" ∷ "union" ∷ "trait" ∷ "impl" ∷ "mod" ∷ [])
+    (after_qualifiers f)
+    && (ends_in_body 0 false f || ends_in_semicolon f)
+
+-- `extern { .. }`, perhaps with `unsafe` and an ABI
+abbrev pub is_extern_block : Forest → Bool
+is_extern_block f =
+    begins_with ("extern" ∷ []) (unwrap_or (after_word (codes "unsafe") f) f)
+    && ends_in_body 0 false (after_qualifiers f) && is_some (first_group (after_qualifiers f))
+
+-- an item that `;` ends
+abbrev pub is_short : Forest → Bool
+is_short f =
+    begins_with ("use" ∷ "static" ∷ "type" ∷ "const" ∷ "extern" ∷ []) f
+    && ends_in_semicolon f
+
+-- a call and nothing else, or `;`
+abbrev pub is_whole_call : Marked → Bool
+is_whole_call (call path name bang d a rest) =
+    is_empty (unmarked rest) || is_semicolon (unmarked rest)
+is_whole_call _ = false
+
+-- the piece is one item and no more: an item that a brace group cuts in two is none
+abbrev pub is_whole_item : Forest → Bool
+is_whole_item piece =
+    let rest : Forest = after_attributes piece in
+    let f : Forest = unwrap_or (after_pub rest) rest in
+    is_bodied f || (is_extern_block f || (is_short f || is_whole_call (marked f)))
+
+-- ---- what is left out
+
+module _ (options : Options) (text : LiteralParts → Option (List ℕ)) where
+  -- the definition that a piece is, if it is kept
+  abbrev pub definition_under : Forest → Option Definition
+  definition_under piece = is_kept options text piece >> definition_of piece
+
+  -- a piece that is not kept is left out if it is a definition, or in a list of items a whole item
+  abbrev pub is_configured_out : Bool → Forest → Bool
+  is_configured_out items piece =
+      not (is_kept options text piece)
+      && (is_some (definition_of piece) || (items && is_whole_item piece))
