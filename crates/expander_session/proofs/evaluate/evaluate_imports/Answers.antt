@@ -15,10 +15,10 @@ use Rattle.expander_session.proofs.evaluate.evaluate_imports.Goals as goal
 
 pub returns-in_err-evaluate_import-clause-cause : goal.returns-in_err-evaluate_import-clause-cause
 returns-in_err-evaluate_import-clause-cause g c = λ e.
-    let imports : List Import = c.imports-import-items.result.now in
+    let imports : List Import = c.imports_of-import-items.result.now in
     let done : List Forest = import_pieces (take c.loop-import.import-index imports) in
     let rest : List Forest = import_pieces (drop (suc c.loop-import.import-index) imports) in
-    subst (λ (ps : List Forest). NeedsMore c.args.context.now.memory.now (definition_trees ps)) (sym c.imports-import-items.ensures.pieces)
+    subst (λ (ps : List Forest). NeedsMore c.args.context.now.memory.now (definition_trees ps)) (sym c.imports_of-import-items.ensures.pieces)
     (imports_need (g.G.FragmentGrammar.answer c.args.context.now.grammar.now) c.args.edition c.args.context.now.depth c.args.context.now.memory.now
     (import_pieces imports) done (import_piece c.import-item.result) rest
     (split_at import_piece imports c.loop-import.import-index c.import-item.result c.loop-import-test.true c.import-item.is)
@@ -28,7 +28,7 @@ returns-in_err-evaluate_import-clause-cause g c = λ e.
 pub loop-import-preserved : goal.loop-import-preserved
 loop-import-preserved g c =
     let A = g.G.FragmentGrammar.answer c.args.context.now.grammar.now in
-    let imports : List Import = c.imports-import-items.result.now in
+    let imports : List Import = c.imports_of-import-items.result.now in
     let done : List Forest = import_pieces (take c.loop-import.import-index imports) in
     let piece : Forest = import_piece c.import-item.result in
     record {
@@ -45,6 +45,6 @@ loop-import-preserved g c =
 
 pub returns-clause-stands : goal.returns-clause-stands
 returns-clause-stands g c =
-    subst (All Stands) (sym c.imports-import-items.ensures.pieces)
-    (All-map Stands import_piece c.imports-import-items.result.now
-    (All-weaker IsImport (λ i. Stands (import_piece i)) (λ i is. is.stands) c.imports-import-items.result.now c.imports-import-items.ensures.right))
+    subst (All Stands) (sym c.imports_of-import-items.ensures.pieces)
+    (All-map Stands import_piece c.imports_of-import-items.result.now
+    (All-weaker IsImport (λ i. Stands (import_piece i)) (λ i is. is.stands) c.imports_of-import-items.result.now c.imports_of-import-items.ensures.right))
