@@ -7,11 +7,11 @@ ghost use Rattle.html_code.specs.Tokens.{ends_word, token_part};
 ghost use Rattle.html_code.specs.Places.{place_of};
 ghost use Rattle.html_code.specs.declared.layout.Gap.{Gap};
 
-use crate::layout::{Gap, Layout};
+use crate::layout::{Gap, PageLayout};
 use crate::origin::{Origin, push_title};
-use crate::sort::sort_of;
 use crate::token::{push_content, push_token};
 use crate::word::word_at;
+use code_layout::sort_of;
 use rustc_lexer::{FrontmatterAllowed, TokenKind, laws, tokenize};
 use std::alloc::{AllocError, Global};
 
@@ -29,7 +29,7 @@ pub(crate) struct Setting<'a> {
 /// How far an expansion is on the page.
 #[derive(Drop)]
 pub(crate) struct Progress<'a> {
-    layout: Layout,
+    layout: PageLayout,
     // The numbers of the origins of the tokens to come.
     numbers: &'a [usize],
     // These origins.
@@ -266,7 +266,7 @@ pub(crate) fn push_expansion(
     laws::next_token();
     laws::tokens_end();
     let mut progress = Progress {
-        layout: Layout::new(alloc),
+        layout: PageLayout::new(alloc),
         numbers,
         origins,
         last: 0,

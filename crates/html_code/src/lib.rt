@@ -9,7 +9,6 @@ mod layout;
 mod number;
 mod origin;
 pub mod page;
-mod sort;
 mod source;
 mod token;
 mod word;

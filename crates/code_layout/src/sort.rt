@@ -4,7 +4,7 @@ use rustc_lexer::TokenKind;
 
 /// What a token is to the layout of code.
 #[derive(Clone, Copy, PartialEq, Eq)]
-pub(crate) enum Sort {
+pub enum Sort {
     /// Nothing: the text begins.
     Start,
     /// A name, a literal or a lifetime.
@@ -102,7 +102,7 @@ fn punct_sort(kind: TokenKind, next: Option<u8>) -> Sort {
 }
 
 /// What a token with this text is. `next` is the byte behind it.
-pub(crate) fn sort_of(kind: TokenKind, text: &str, next: Option<u8>) -> Sort {
+pub fn sort_of(kind: TokenKind, text: &str, next: Option<u8>) -> Sort {
     match kind {
         TokenKind::Ident => word_sort(text),
         TokenKind::RawIdent | TokenKind::Literal { .. } | TokenKind::Lifetime { .. } => {
