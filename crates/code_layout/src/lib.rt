@@ -1,10 +1,12 @@
 //! Rust code laid out in lines: where it has blanks and line ends, and a text laid out so.
 #![tactic(auto)]
 
+mod bars;
 mod layout;
 mod lines;
 mod measure;
 mod pieces;
+mod short;
 mod sort;
 mod text;
 mod touch;

@@ -96,7 +96,7 @@ impl Lines {
         if closed.is_some() {
             return None;
         }
-        if self.opened_spread || (self.before == Sort::Comma && is_spread) {
+        if self.opened_spread || (is_spread && piece.is_part && self.before == Sort::Comma) {
             return Some(self.statement);
         }
         if self.is_too_long(piece) {
