@@ -1,6 +1,6 @@
-"""Whether texts are laid out as the same tokens: compare.py PROGRAM FILE..
+"""Whether texts are laid out as the same tokens: compare.py PROGRAM FOLDER
 
-Each file is a printed text. For each the program's layout is cut into tokens by a lexer of its own, and compared
+Each file of the folder is a printed text. For each the program's layout is cut into tokens by a lexer of its own, and compared
 with the tokens of the printed text: the texts of all in order, and which signs side by side make an operator. It
 prints how many files differ, how many are not laid out, how many lines are over 120 columns, and the time."""
 import os
@@ -75,4 +75,4 @@ def lex_or_none(line):
 
 
 if __name__ == '__main__':
-    sys.exit(main(sys.argv[1], sys.argv[2:]))
+    sys.exit(main(sys.argv[1], sorted(os.path.join(sys.argv[2], it) for it in os.listdir(sys.argv[2]))))

@@ -1,5 +1,5 @@
 -- The tokens that a text shows, one by one.
-use Rattle.std.proofs.Common.{◌≡◌, ℕ, ◌+◌, List, [], ◌∷◌, ◌++◌, Bool, true, false, IsTrue, drop, take, sym, ap, refl, subst, ◌∙◌, append_assoc, length, arith, ◌≢◌}
+use Rattle.std.proofs.Common.{◌≡◌, ℕ, ◌+◌, List, [], ◌∷◌, ◌++◌, Bool, true, false, IsTrue, drop, take, sym, ap, refl, ◌∙◌, append_assoc, length, arith, ◌≢◌}
 use mathlib.Core.Bool.{beq}
 use Rattle.std.specs.Prelude.{◌↔◌, ◌==◌}
 use Rattle.code_layout.specs.Places.{all_words, word_of}

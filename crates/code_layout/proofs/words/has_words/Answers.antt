@@ -1,5 +1,4 @@
-use Rattle.std.proofs.Common.{refl}
-use Rattle.code_layout.proofs.WordLemmas.{both_go_on, differs, none_left}
+use Rattle.code_layout.proofs.WordLemmas.{both_go_on, none_left}
 use Rattle.code_layout.proofs.words.has_words.Goals as goal
 
 pub text_at-requires : goal.text_at-requires

@@ -1,4 +1,3 @@
-use Rattle.std.proofs.Common.{refl}
 use Rattle.code_layout.proofs.WordLemmas.{word_added}
 use Rattle.code_layout.proofs.words.words_in.Goals as goal
 
