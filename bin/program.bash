@@ -139,6 +139,7 @@ check_words() {
                 check_value "${words[i]}" "${words[i + 1]}"
                 i=$((i + 1))
                 ;;
+            --layout) [ "${words[0]}" = expand ] || misused "${words[0]} has no option --layout" ;;
             -?*) misused "there is no option $(shown "${words[i]}")" ;;
             *) take_file $i ;;
         esac

@@ -1,14 +1,14 @@
 -- The words of a command line, as clap gives them.
-use Rattle.std.proofs.Common.{◌≡◌, List, [], ◌∷◌, Option, Some, None, true, sym, ap, ◌∙◌, subst, codes}
+use Rattle.std.proofs.Common.{◌≡◌, List, [], ◌∷◌, Option, Some, None, Bool, true, false, sym, ap, ◌∙◌, subst, codes}
 use Rattle.std.specs.Prelude.{IfOk, IfSome, Result, Ok, Err, option_map, unwrap_or}
-use Rattle.clap.proofs.WalkLemmas.{first_value-rows, raw_values-rows}
-use Rattle.clap.specs.Matches.{first_value, matched_of, raw_values}
+use Rattle.clap.proofs.WalkLemmas.{first_value-rows, one_text-rows, raw_values-rows}
+use Rattle.clap.specs.Matches.{first_value, matched_of, one_text, raw_values}
 use Rattle.clap.specs.Simple.{App, Shape, is_simple, new_shape}
-use Rattle.clap.specs.Walk.{Row, Text, all_of, first_of, rows_of}
+use Rattle.clap.specs.Walk.{Row, Text, all_of, first_of, one_of, rows_of}
 use Rattle.clap.specs.declared.builder.value_parser.ValueParser.{ValueParser}
 use Rattle.clap.specs.declared.parser.matches.Found.{Found}
 use Rattle.filgordd.specs.Choices.{action_name}
-use Rattle.filgordd.specs.Commands.{AsksBy, AsksFor, IsFile, IsProgram, file_rule, on_text, option_rule, program_shape}
+use Rattle.filgordd.specs.Commands.{AsksBy, AsksFor, IsFile, IsFlag, IsProgram, file_rule, layout_rule, on_text, option_rule, program_shape, with_more}
 use Rattle.filgordd.specs.declared.job.Action.{Action}
 use Rattle.filgordd.specs.declared.job.Job.{Job}
 
@@ -32,6 +32,15 @@ pub values_are : {B : Type 0} (now : B → List Text) (f : Found) (id : Text) (g
     → unwrap_or (all_of id (rows_of f)) [] ≡ values
 values_are now f id got values is same =
     ap (λ (o : Option (List Text)). unwrap_or o []) (sym (raw_values-rows f id) ∙ sym is) ∙ same
+
+-- a flag that was got is that of its row
+pub flag_is : (f : Found) (id : Text) (set : Bool) → (one_text f id ≡ None → set ≡ false) → (one_text f id ≡ Some (codes "true") → set ≡ true)
+    → (one_text f id ≡ Some (codes "false") → set ≡ false) → IsFlag (one_of id (rows_of f)) set
+flag_is f id set none yes no = record {
+  none = λ h. none (one_text-rows f id ∙ h);
+  no = λ h. no (one_text-rows f id ∙ h);
+  yes = λ h. yes (one_text-rows f id ∙ h);
+}
 
 -- a name and rows that were got apart stand together
 pub together : {B : Type 0} (o : Option B) (name_of : B → Text) (rows : B → List Row) (n : Text) (r : List Row) → option_map name_of o ≡ Some n
@@ -66,10 +75,12 @@ subcommand_of_name name grammar edition depth = record (new_shape name) {
 pub is_simple_program : (app : App) → IsProgram app → is_simple app ≡ true
 is_simple_program app p =
     let base : Shape =
-    subcommand_of_name (codes "expand") p.is_expand.is_base.grammar p.is_expand.is_base.edition p.is_expand.is_base.depth in
+    subcommand_of_name (codes "expand") p.is_expand.is_base.is_base.grammar p.is_expand.is_base.is_base.edition p.is_expand.is_base.is_base.depth in
+    let laid : Shape = with_more layout_rule (on_text base) in
     let replay : Shape = subcommand_of_name (codes "replay") p.is_replay.grammar p.is_replay.edition p.is_replay.depth in
     let of_three : Shape → Shape → Shape → App = λ a b c. record { top = program_shape; subs = a ∷ b ∷ c ∷ [] } in
     ap is_simple (p.app_is
-    ∙ ap (λ (s : Shape). of_three s p.replay p.view) (p.is_expand.shape_is ∙ ap on_text p.is_expand.is_base.shape_is)
-    ∙ ap (λ (s : Shape). of_three (on_text base) s p.view) p.is_replay.shape_is
-    ∙ ap (λ (s : Shape). of_three (on_text base) replay s) (p.is_view.shape_is ∙ ap on_text p.is_view.is_base.shape_is))
+    ∙ ap (λ (s : Shape). of_three s p.replay p.view) (p.is_expand.shape_is
+    ∙ ap (with_more layout_rule) (p.is_expand.is_base.shape_is ∙ ap on_text p.is_expand.is_base.is_base.shape_is))
+    ∙ ap (λ (s : Shape). of_three laid s p.view) p.is_replay.shape_is
+    ∙ ap (λ (s : Shape). of_three laid replay s) (p.is_view.shape_is ∙ ap on_text p.is_view.is_base.shape_is))

@@ -3,9 +3,9 @@ use Rattle.std.proofs.Common.{◌≡◌, List, [], ◌∷◌, Option, Some, None
 use Rattle.std.specs.Prelude.{option_map}
 use Rattle.clap.proofs.OnLiterals.{clap_on_literals}
 use Rattle.clap.specs.Simple.{App, Shape, new_shape, subcommand_of}
-use Rattle.clap.specs.Walk.{Text, all_of, first_of}
+use Rattle.clap.specs.Walk.{Text, all_of, first_of, one_of}
 use Rattle.clap.specs.declared.builder.value_parser.ValueParser.{ValueParser}
-use Rattle.filgordd.specs.Commands.{file_rule, on_text, option_rule, program_shape}
+use Rattle.filgordd.specs.Commands.{file_rule, layout_rule, on_text, option_rule, program_shape, with_more}
 
 module _ (grammar edition depth : ValueParser) where
   abbrev named : Text → Shape
@@ -18,7 +18,7 @@ module _ (grammar edition depth : ValueParser) where
   abbrev program : App
   program = record {
     top = program_shape;
-    subs = on_text (named (codes "expand")) ∷ named (codes "replay") ∷ on_text (named (codes "view")) ∷ [];
+    subs = with_more layout_rule (on_text (named (codes "expand"))) ∷ named (codes "replay") ∷ on_text (named (codes "view")) ∷ [];
   }
 
   -- the subcommand, the three values and the file
@@ -55,3 +55,18 @@ module _ (grammar edition depth : ValueParser) where
       ≡ Some (Some (codes "d"), (Some (codes "a" ∷ codes "b@2021=c" ∷ []), Some (codes "t")))
   unfolding clap_on_literals
   other_files = refl
+
+  -- whether a layout is asked for
+  abbrev layout : List Text → Option (Option Text × Option Text)
+  layout words = option_map {U = Option Text × Option Text}
+      (λ p. (one_of (codes "layout") p.1, first_of (codes "file") p.1)) (subcommand_of program words)
+
+  -- `filgordd expand --layout t`
+  laid_out : layout (codes "filgordd" ∷ codes "expand" ∷ codes "--layout" ∷ codes "t" ∷ []) ≡ Some (Some (codes "true"), Some (codes "t"))
+  unfolding clap_on_literals
+  laid_out = refl
+
+  -- `filgordd expand t`
+  as_printed : layout (codes "filgordd" ∷ codes "expand" ∷ codes "t" ∷ []) ≡ Some (Some (codes "false"), Some (codes "t"))
+  unfolding clap_on_literals
+  as_printed = refl

@@ -1,9 +1,9 @@
 -- The command line of the program, as `clap` reads it. (Of this project.)
-use Rattle.std.specs.Prelude.{◌≡◌, ◌≢◌, List, [], ◌∷◌, ◌++◌, codes, map, Option, Some, None, option_map, true, false, unwrap_or, ⊤}
+use Rattle.std.specs.Prelude.{◌≡◌, ◌≢◌, Bool, List, [], ◌∷◌, ◌++◌, codes, map, Option, Some, None, option_map, true, false, unwrap_or, ⊤}
 use Rattle.clap.specs.Simple.{App, Shape, new_rule, new_shape, subcommand_of}
 use Rattle.any_grammar.specs.declared.chosen.AnyGrammar.{AnyGrammar}
-use Rattle.clap.specs.Walk.{Row, Rule, Text, all_of, first_of}
-use Rattle.clap.specs.declared.builder.action.ArgAction.TheVariants.{Append}
+use Rattle.clap.specs.Walk.{Row, Rule, Text, all_of, first_of, one_of}
+use Rattle.clap.specs.declared.builder.action.ArgAction.TheVariants.{Append, SetTrue}
 use Rattle.clap.specs.declared.builder.value_parser.ValueParser.{ValueParser}
 use Rattle.expander_run.specs.declared.options.Options.{Options}
 use Rattle.filgordd.specs.Choices.{Chosen, action_name}
@@ -31,6 +31,10 @@ with_rule = record (new_rule (codes "with")) {
   value_names = 1;
   action = Some Append;
 }
+
+-- a layout is asked for: an option with no value of its own
+abbrev pub layout_rule : Rule
+layout_rule = record (new_rule (codes "layout")) { long = Some (codes "layout"); action = Some SetTrue }
 
 -- the file, which has no name on the command line
 abbrev pub file_rule : Rule
@@ -60,6 +64,12 @@ pub record IsTextSubcommand (name : Text) (shape : Shape) : Type 0 where
   pub is_base : IsSubcommand name base
   pub shape_is : shape ≡ on_text base
 
+-- `expand`, which may lay out what it prints
+pub record IsExpandSubcommand (shape : Shape) : Type 0 where
+  pub base : Shape
+  pub is_base : IsTextSubcommand (codes "expand") base
+  pub shape_is : shape ≡ with_more layout_rule base
+
 -- the program: one of its three subcommands has to be named
 abbrev pub program_shape : Shape
 program_shape = record (new_shape (codes "filgordd")) {
@@ -73,7 +83,7 @@ pub record IsProgram (app : App) : Type 0 where
   pub expand : Shape
   pub replay : Shape
   pub view : Shape
-  pub is_expand : IsTextSubcommand (codes "expand") expand
+  pub is_expand : IsExpandSubcommand expand
   pub is_replay : IsSubcommand (codes "replay") replay
   pub is_view : IsTextSubcommand (codes "view") view
   pub app_is : app ≡ record { top = program_shape; subs = expand ∷ replay ∷ view ∷ [] }
@@ -82,6 +92,12 @@ pub record IsProgram (app : App) : Type 0 where
 pub record IsFile (word file : Option Text) : Type 0 where
   pub lone : word ≡ Some (codes "-") → file ≡ None
   pub other : word ≢ Some (codes "-") → file ≡ word
+
+-- a flag is set where its value is the word for it
+pub record IsFlag (word : Option Text) (set : Bool) : Type 0 where
+  pub none : word ≡ None → set ≡ false
+  pub no : word ≡ Some (codes "false") → set ≡ false
+  pub yes : word ≡ Some (codes "true") → set ≡ true
 
 -- what the values of a subcommand's options choose
 pub record ChosenBy (rows : List Row) (options : Options AnyGrammar) : Type 0 where
@@ -93,10 +109,11 @@ pub record ChosenBy (rows : List Row) (options : Options AnyGrammar) : Type 0 wh
   pub has_depth : first_of (codes "depth") rows ≡ Some depth
   pub chosen : Chosen grammar edition depth options
 
--- what they ask for: a job with these options, and, each as its word names it, a folder of
+-- what they ask for: a job with these options, laid out or not, and, each as its word names it, a folder of
 -- libraries, other files in order, and a text
 pub record AsksBy (rows : List Row) (job : Job) : Type 0 where
   pub options : ChosenBy rows job.options
+  pub has_layout : IsFlag (one_of (codes "layout") rows) job.layout
   pub has_library : first_of (codes "std") rows ≡ option_map (λ s. s.now) job.library
   pub has_with : unwrap_or (all_of (codes "with") rows) [] ≡ map (λ s. s.now) job.with.items
   pub has_file : IsFile (first_of (codes "file") rows) (option_map (λ s. s.now) job.file)

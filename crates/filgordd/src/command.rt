@@ -3,7 +3,7 @@ ghost use Rattle.std.specs.Prelude.{◌≡◌, IfOk, codes, false};
 ghost use Rattle.clap.specs.Words.{app_of, rule_of, shape_of};
 ghost use Rattle.clap.specs.declared.builder.command.Command.TheViews.{out-Command as fields_of};
 ghost use Rattle.clap.specs.declared.builder.value_parser.ValueParser.{ValueParser};
-ghost use Rattle.filgordd.specs.Commands.{IsProgram, IsSubcommand, IsTextSubcommand, file_rule, library_rule, option_rule, with_rule};
+ghost use Rattle.filgordd.specs.Commands.{IsExpandSubcommand, IsProgram, IsSubcommand, IsTextSubcommand, file_rule, layout_rule, library_rule, option_rule, with_rule};
 
 use clap::{Arg, ArgAction, Command, value_parser};
 use std::alloc::{AllocError, Global};
@@ -78,6 +78,16 @@ fn with<'a>(alloc: Global) -> Arg<'a>
         .help("A file whose macros the text may call, of this crate or of another; may be repeated")
 }
 
+fn layout<'a>(alloc: Global) -> Arg<'a>
+    ensures rule { rule_of result ≡ layout_rule }
+    ensures own { result.global ≡ false }
+{
+    Arg::new(alloc, "layout")
+        .long("layout")
+        .action(ArgAction::SetTrue)
+        .help("Lays the expansion out as Rust code")
+}
+
 fn file<'a>(alloc: Global) -> Arg<'a>
     ensures rule { rule_of result ≡ file_rule }
     ensures own { result.global ≡ false }
@@ -114,11 +124,19 @@ fn text_subcommand<'a>(
         .arg(with(alloc))
 }
 
+// The subcommand that prints an expansion.
+fn expand_subcommand<'a>(alloc: Global) -> Result<Command<'a>, AllocError>
+    ensures shape { IfOk result (λ c. IsExpandSubcommand (shape_of c)) }
+    ensures own { IfOk result (λ c. (fields_of c).has_globals ≡ false) }
+{
+    let about = "Prints the expansion of a text, and reports its faults";
+    text_subcommand(alloc, "expand", about)?.arg(layout(alloc))
+}
+
 /// The program's command. Its subcommands are the names of [`Action`](crate::job::Action).
 pub(crate) fn program<'a>(alloc: Global) -> Result<Command<'a>, AllocError>
     ensures { IfOk result (λ c. IsProgram (app_of c)) }
 {
-    let expand = "Prints the expansion of a text, and reports its faults";
     let replay = "Answers a script of edits and expansions";
     let view = "Prints an HTML page of a text, its expansion and its faults";
     Command::new(alloc, "filgordd")
@@ -128,7 +146,7 @@ pub(crate) fn program<'a>(alloc: Global) -> Result<Command<'a>, AllocError>
         .after_help(STATUSES)
         .subcommand_required(true)
         .disable_help_subcommand(true)
-        .subcommand(text_subcommand(alloc, "expand", expand)?)?
+        .subcommand(expand_subcommand(alloc)?)?
         .subcommand(subcommand(alloc, "replay", replay)?)?
         .subcommand(text_subcommand(alloc, "view", view)?)
 }

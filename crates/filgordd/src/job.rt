@@ -36,6 +36,8 @@ pub(crate) fn action_of(name: &str) -> Option<Action>
 pub(crate) struct Job<'a> {
     pub(crate) action: Action,
     pub(crate) options: Options<AnyGrammar>,
+    /// Whether the expansion is laid out.
+    pub(crate) layout: bool,
     /// The folder of the libraries whose definitions come first.
     pub(crate) library: Option<&'a str>,
     /// The words for the other files, in order.

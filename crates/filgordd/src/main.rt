@@ -5,6 +5,7 @@
 mod command;
 mod files;
 mod job;
+mod layout;
 mod library;
 mod load;
 mod other;

@@ -71,6 +71,7 @@ fn job_of<'a>(
     Ok(Some(Job {
         action,
         options,
+        layout: matches.get_flag("layout"),
         library: matches.get_str("std"),
         with: with_words(alloc, matches)?,
         file: file_of(matches.get_str("file")),

@@ -2,6 +2,7 @@
 
 use crate::files::{misused, opened, read_whole, stopped};
 use crate::job::{Action, Job};
+use crate::layout::expand_in_lines;
 use crate::load::{Ended, Others, others_of};
 use crate::source::blank_front;
 use crate::view::view;
@@ -80,6 +81,7 @@ fn answer(
 ) -> io::Result<ExitCode> {
     match job.action {
         Action::View => show(rt, job.options, others, name, text),
+        _ if job.layout => expand_in_lines(rt, job.options, others.prelude, text),
         _ => Ok(expand(rt, job.options, others.prelude, text)),
     }
 }

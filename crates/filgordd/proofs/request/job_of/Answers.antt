@@ -1,11 +1,14 @@
 use Rattle.std.proofs.Common.{codes}
 use Rattle.clap.specs.Words.{found_of}
-use Rattle.filgordd.proofs.CommandLemmas.{file_is, option_is}
+use Rattle.filgordd.proofs.CommandLemmas.{file_is, flag_is, option_is}
 use Rattle.filgordd.proofs.request.job_of.Goals as goal
 
 pub returns-clause-words : goal.returns-clause-words
 returns-clause-words c = record {
   options = c.in-Some.ensures;
+  has_layout =
+      flag_is (found_of c.args.matches.now) (codes "layout") c.get_flag.result c.get_flag.ensures.none
+      c.get_flag.ensures.value c.get_flag.ensures.other;
   has_library = option_is (λ s. s.now) (found_of c.args.matches.now) (codes "std") c.get_str.result c.get_str.ensures;
   has_with = c.in_ok-with_words.ensures;
   has_file = file_is (λ s. s.now) (found_of c.args.matches.now) (codes "file") c.get_str-2.result _ c.get_str-2.ensures c.file_of.ensures;
