@@ -49,7 +49,7 @@ no_call_group : (p : Punct) (d : Delimiter) → is_char ";" p ≡ true → is_ba
 no_call_group p d h = rw (no_bang p h) refl
 
 -- a `;` begins no call
-end_leaf : (l : Leaf) (m : Marked) → is_punct ";" l ≡ true → mark_leaf l m ≡ token l m
+pub end_leaf : (l : Leaf) (m : Marked) → is_punct ";" l ≡ true → mark_leaf l m ≡ token l m
 end_leaf (as_leaf.Punct p) (token (as_leaf.Punct q) (call bare name bang b a r)) h = rw (no_first_colons p q h) refl
 end_leaf (as_leaf.Punct p) m h = refl
 end_leaf (as_leaf.Ident i) m h = absurd (cc h)
@@ -60,7 +60,7 @@ behind_end (as_leaf.Ident i) p (inside b a r) h = rw (no_call_group p b h) refl
 behind_end (as_leaf.Punct q) p (call bare name bang b a r) h = rw (no_second_colons q p h) refl
 behind_end l p n h = refl
 
-leaf_chain : (l : Leaf) (m n : Marked) → IsShut m → mark_leaf l (chain m n) ≡ chain (mark_leaf l m) n
+pub leaf_chain : (l : Leaf) (m n : Marked) → IsShut m → mark_leaf l (chain m n) ≡ chain (mark_leaf l m) n
 leaf_chain l none n h = absurd h
 leaf_chain l (token (as_leaf.Punct p) none) n (inl h) = behind_end l p n h ∙ ap (λ m. chain m n) (sym (behind_end l p none h))
 leaf_chain l (token (as_leaf.Punct p) none) n (inr h) = absurd h
@@ -77,7 +77,7 @@ leaf_chain (as_leaf.Ident i) m n h = refl
 leaf_chain (as_leaf.Punct q) m n h = refl
 leaf_chain (as_leaf.Literal t) m n h = refl
 
-shut_leaf : (l : Leaf) (m : Marked) → IsShut m → IsShut (mark_leaf l m)
+pub shut_leaf : (l : Leaf) (m : Marked) → IsShut m → IsShut (mark_leaf l m)
 shut_leaf (as_leaf.Ident i) (token (as_leaf.Punct p) (inside b a r)) h =
     elim (is_bang_group p b) as (λ t. IsShut (if t then call bare i p b a r else token (as_leaf.Ident i) (token (as_leaf.Punct p) (inside b a r)))) [ true ↦ tt | false ↦ inr h ]
 shut_leaf (as_leaf.Punct q) (token (as_leaf.Punct p) (call bare name bang b a r)) h =

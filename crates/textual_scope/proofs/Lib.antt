@@ -8,6 +8,7 @@ pub mod KeywordLemmas
 pub mod RuleLemmas
 pub mod MarkChangeLemmas
 pub mod ChangeLemmas
+pub mod LeftLemmas
 mod Lines
 mod Rows
 mod ConditionLemmas

@@ -6,3 +6,5 @@ pub mod Keywords
 pub mod ScopeChanges
 -- what conditional compilation leaves out; no meaning takes it yet
 pub mod Conditions
+-- what the functions inside a crate that expands by these promise each other
+pub mod FromLeft
