@@ -1,7 +1,7 @@
 //! Other numbers of levels than the stored run of scripts has, and the origins of printed tokens.
 use crate::opened::{found, opened};
 use crate::scripts::roomy;
-use expander::{Edition, Expansion, FaultKind, Options, SmallGrammar, Watched};
+use expander::{Edition, Expansion, FaultKind, Options, Prelude, SmallGrammar, Watched};
 use replay_script::answer_script;
 use std::alloc::Global;
 use std::test::Fail;
@@ -100,7 +100,13 @@ fn told(alloc: Global, depth: u8, text: &str) -> Result<String, Fail> {
         depth,
     };
     let mut writer = Watched::new(roomy(alloc));
-    answer_script(alloc, &mut script.as_bytes(), &mut writer, options);
+    answer_script(
+        alloc,
+        &mut script.as_bytes(),
+        &mut writer,
+        options,
+        Prelude::new(alloc),
+    );
     Ok(String::from_utf8(writer.into_inner().got)?)
 }
 

@@ -5,7 +5,7 @@ use crate::opened::{found, opened};
 use crate::scripts::OPTIONS;
 use any_grammar::AnyGrammar;
 use expander::{
-    Answer, Command, Edition, Expansion, Options, Refusal, Reply, Session, SmallGrammar, Status,
+    Answer, Command, Edition, Expansion, Options, Prelude, Refusal, Reply, Session, SmallGrammar, Status,
     TextRange, Watched, replay, run, run_with,
 };
 use replay_script::{Answered, End, answer_script};
@@ -273,7 +273,13 @@ fn is_end(lines: usize, bytes: usize) -> bool {
 fn is_answered_script(alloc: Global) -> Option<bool> {
     let mut reader = SCRIPT;
     let mut writer = Watched::new(wide(alloc));
-    let Answered { lines, end } = answer_script(alloc, &mut reader, &mut writer, OPTIONS);
+    let Answered { lines, end } = answer_script(
+        alloc,
+        &mut reader,
+        &mut writer,
+        OPTIONS,
+        Prelude::new(alloc),
+    );
     let got = writer.into_inner().got;
     let got = std::str::from_utf8(got.as_slice()).ok()?;
     let is_front = ANSWERS[0].as_bytes().starts_with(got.as_bytes());

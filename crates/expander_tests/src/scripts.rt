@@ -1,6 +1,6 @@
 //! Scripts, line by line: what is written, how many lines are read, and how a script ends.
 use crate::fakes::{Narrow, whole, wide};
-use expander::{Edition, Options, SmallGrammar, Watched};
+use expander::{Edition, Options, Prelude, SmallGrammar, Watched};
 use replay_script::{Answered, End, answer_script};
 use std::alloc::Global;
 use std::io::BufReader;
@@ -56,7 +56,13 @@ pub(crate) fn roomy(alloc: Global) -> Narrow {
 fn answered(alloc: Global, script: &str) -> Result<(String, Answered), Fail> {
     let mut reader = BufReader::new(alloc, whole(script.as_bytes()))?;
     let mut writer = Watched::new(roomy(alloc));
-    let answered = answer_script(alloc, &mut reader, &mut writer, OPTIONS);
+    let answered = answer_script(
+        alloc,
+        &mut reader,
+        &mut writer,
+        OPTIONS,
+        Prelude::new(alloc),
+    );
     Ok((String::from_utf8(writer.into_inner().got)?, answered))
 }
 
@@ -83,7 +89,7 @@ fn a_writer_that_fails(rt: HostRuntime) -> Result<(), Fail> {
     let mut narrow = wide(rt.alloc());
     narrow.room = 9;
     let mut writer = Watched::new(narrow);
-    let answered = answer_script(rt.alloc(), &mut reader, &mut writer, OPTIONS);
+    let answered = answer_script(rt.alloc(), &mut reader, &mut writer, OPTIONS, Prelude::new(rt.alloc()));
     let writer = writer.into_inner();
     assert!(rt; matches!(answered.end, End::WriteFailed) && reader == b"expand\n".as_slice());
     assert!(rt; writer.got.as_slice() == b"edited\npr".as_slice() && !writer.asked_again);

@@ -74,13 +74,13 @@ subcommand_of_name name grammar edition depth = record (new_shape name) {
 -- the program is one of which clap says the matches
 pub is_simple_program : (app : App) → IsProgram app → is_simple app ≡ true
 is_simple_program app p =
-    let base : Shape =
-    subcommand_of_name (codes "expand") p.is_expand.is_base.is_base.grammar p.is_expand.is_base.is_base.edition p.is_expand.is_base.is_base.depth in
-    let laid : Shape = with_more layout_rule (on_text base) in
-    let replay : Shape = subcommand_of_name (codes "replay") p.is_replay.grammar p.is_replay.edition p.is_replay.depth in
+    let base : Text → ValueParser → ValueParser → ValueParser → Shape = λ name g e d. on_text (subcommand_of_name name g e d) in
     let of_three : Shape → Shape → Shape → App = λ a b c. record { top = program_shape; subs = a ∷ b ∷ c ∷ [] } in
+    let expand : Shape = with_more layout_rule
+    (base (codes "expand") p.is_expand.is_base.is_base.grammar p.is_expand.is_base.is_base.edition p.is_expand.is_base.is_base.depth) in
+    let replay : Shape = base (codes "replay") p.is_replay.is_base.grammar p.is_replay.is_base.edition p.is_replay.is_base.depth in
     ap is_simple (p.app_is
     ∙ ap (λ (s : Shape). of_three s p.replay p.view) (p.is_expand.shape_is
     ∙ ap (with_more layout_rule) (p.is_expand.is_base.shape_is ∙ ap on_text p.is_expand.is_base.is_base.shape_is))
-    ∙ ap (λ (s : Shape). of_three laid s p.view) p.is_replay.shape_is
-    ∙ ap (λ (s : Shape). of_three laid replay s) (p.is_view.shape_is ∙ ap on_text p.is_view.is_base.shape_is))
+    ∙ ap (λ (s : Shape). of_three expand s p.view) (p.is_replay.shape_is ∙ ap on_text p.is_replay.is_base.shape_is)
+    ∙ ap (λ (s : Shape). of_three expand replay s) (p.is_view.shape_is ∙ ap on_text p.is_view.is_base.shape_is))

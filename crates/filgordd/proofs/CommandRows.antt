@@ -18,7 +18,7 @@ module _ (grammar edition depth : ValueParser) where
   abbrev program : App
   program = record {
     top = program_shape;
-    subs = with_more layout_rule (on_text (named (codes "expand"))) ∷ named (codes "replay") ∷ on_text (named (codes "view")) ∷ [];
+    subs = with_more layout_rule (on_text (named (codes "expand"))) ∷ on_text (named (codes "replay")) ∷ on_text (named (codes "view")) ∷ [];
   }
 
   -- the subcommand, the three values and the file

@@ -2,10 +2,10 @@
 use Rattle.std.specs.Prelude.{◌≡◌, ℕ, List, codes}
 use Rattle.std.specs.Str.Parse.{IsNumeral, digits_value, without_leading_plus}
 use Rattle.tt_data.specs.declared.edition.Edition.{Edition}
-use Rattle.tt_data.specs.declared.edition.Edition.TheVariants.{Edition2015, Edition2018, Edition2021, Edition2024}
 use Rattle.any_grammar.specs.declared.chosen.AnyGrammar.{AnyGrammar}
 use Rattle.any_grammar.specs.declared.chosen.AnyGrammar.TheVariants.{Small, Rust}
 use Rattle.expander_run.specs.declared.options.Options.{Options}
+use Rattle.replay_script.specs.Editions.{edition_name}
 use Rattle.filgordd.specs.declared.job.Action.{Action}
 use Rattle.filgordd.specs.declared.job.Action.TheVariants.{Expand, Replay, View}
 
@@ -14,13 +14,6 @@ abbrev pub action_name : Action → List ℕ
 action_name Expand = codes "expand"
 action_name Replay = codes "replay"
 action_name View = codes "view"
-
--- the name of an edition: its year
-abbrev pub edition_name : Edition → List ℕ
-edition_name Edition2015 = codes "2015"
-edition_name Edition2018 = codes "2018"
-edition_name Edition2021 = codes "2021"
-edition_name Edition2024 = codes "2024"
 
 -- a word names a grammar; that of Rust is of this edition
 abbrev pub IsGrammar : List ℕ → Edition → AnyGrammar → Type 0

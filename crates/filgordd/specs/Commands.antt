@@ -84,7 +84,7 @@ pub record IsProgram (app : App) : Type 0 where
   pub replay : Shape
   pub view : Shape
   pub is_expand : IsExpandSubcommand expand
-  pub is_replay : IsSubcommand (codes "replay") replay
+  pub is_replay : IsTextSubcommand (codes "replay") replay
   pub is_view : IsTextSubcommand (codes "view") view
   pub app_is : app ≡ record { top = program_shape; subs = expand ∷ replay ∷ view ∷ [] }
 

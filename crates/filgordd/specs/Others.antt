@@ -4,7 +4,7 @@ use Rattle.std.specs.List.{after_first, before_first, position_or_len}
 use Rattle.clap.specs.Walk.{Text}
 use Rattle.expander_sources.specs.Homes.{Home, home_named}
 use Rattle.tt_data.specs.declared.edition.Edition.{Edition}
-use Rattle.filgordd.specs.Choices.{edition_name}
+use Rattle.replay_script.specs.Editions.{edition_name}
 use Rattle.filgordd.specs.declared.other.Other.{Other}
 use Rattle.filgordd.specs.declared.other.Other.TheVariants.{File, BadRoot, BadEdition}
 

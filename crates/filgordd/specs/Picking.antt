@@ -1,38 +1,23 @@
--- Which definitions of other texts a text is expanded after. (Of this project.)
-use Rattle.std.specs.Prelude.{Bool, true, false, not, ◌&&◌, ◌==◌, List, [], ◌∷◌, ◌++◌, codes, filter, flat_map, length, Option, Some, None}
+-- Which definitions of libraries a text is expanded after. (Of this project.)
+use Rattle.std.specs.Prelude.{Bool, true, false, not, ◌&&◌, List, [], ◌∷◌, ◌++◌, codes, filter, flat_map, Option, Some, None}
 use Rattle.std.specs.Str.{bytes_eq}
 use Rattle.tt_data.specs.Forest.{Forest}
 use Rattle.expander_sources.specs.Homes.{Home}
 use Rattle.expander_sources.specs.Picks.{picked, rooted_picks}
 use Rattle.expander_sources.specs.Sources.{Item, Source, has_attribute}
-use Rattle.filgordd.specs.declared.picks.Choice.{Choice}
-use Rattle.filgordd.specs.declared.picks.Choice.TheVariants.{Outermost, Exported}
 
--- a definition is chosen: it stands in no module, or its crate exports it
-abbrev pub is_chosen : Choice → Item → Bool
-is_chosen Outermost i = length i.modules == 0
-is_chosen Exported i = has_attribute (codes "macro_export") i.piece
+-- a definition is exported by its crate, and the compiler does not have it built in
+abbrev pub is_exported : Item → Bool
+is_exported i =
+    not (has_attribute (codes "rustc_builtin_macro") i.piece) && has_attribute (codes "macro_export") i.piece
 
--- a definition is seen by its name: it is chosen, and the compiler does not have it built in
-abbrev pub is_picked : Choice → Item → Bool
-is_picked choice i = not (has_attribute (codes "rustc_builtin_macro") i.piece) && is_chosen choice i
-
--- the definitions of a source that are seen by their names, in order
-abbrev pub picks_of : Choice → Source → List Forest
-picks_of choice s = flat_map (λ i. picked s.home i.piece ∷ []) (filter (is_picked choice) s.items)
+-- such definitions of a source, in order, seen by their names
+abbrev pub exports_of : Source → List Forest
+exports_of s = flat_map (λ i. picked s.home i.piece ∷ []) (filter is_exported s.items)
 
 -- the definitions of a source behind a root
 abbrev pub behind : Home → Source → List Forest
 behind root s = rooted_picks root.root s.home s.items
-
--- the definitions of a source behind its own root, if it has one
-abbrev pub behind_own : Option Home → Source → List Forest
-behind_own None s = []
-behind_own (Some home) s = behind home s
-
--- those of a file: by their names, and behind its own root
-abbrev pub picks_of_file : Source → List Forest
-picks_of_file s = picks_of Outermost s ++ behind_own s.home s
 
 -- a source is of the crate with this root
 abbrev pub is_at : Home → Option Home → Bool
@@ -58,4 +43,4 @@ picks_behind sources root = picks_at_side false sources root ++ picks_at_side tr
 -- those of libraries that export one another's: by their names, and behind the root of each
 abbrev pub picks_of_library : List Source → List Home → List Forest
 picks_of_library sources roots =
-    flat_map (picks_of Exported) sources ++ flat_map (picks_behind sources) roots
+    flat_map exports_of sources ++ flat_map (picks_behind sources) roots

@@ -147,6 +147,6 @@ pub(crate) fn program<'a>(alloc: Global) -> Result<Command<'a>, AllocError>
         .subcommand_required(true)
         .disable_help_subcommand(true)
         .subcommand(expand_subcommand(alloc)?)?
-        .subcommand(subcommand(alloc, "replay", replay)?)?
+        .subcommand(text_subcommand(alloc, "replay", replay)?)?
         .subcommand(text_subcommand(alloc, "view", view)?)
 }

@@ -1,10 +1,10 @@
 //! What the program is asked for: a subcommand, its options and its text.
 ghost use Rattle.std.specs.Prelude.{◌≡◌, ◌≢◌, IfSome, MatchOption};
-ghost use Rattle.tt_data.specs.declared.edition.Edition.{Edition};
-ghost use Rattle.filgordd.specs.Choices.{Chosen, IsGrammar, action_name, edition_name};
+ghost use Rattle.filgordd.specs.Choices.{Chosen, IsGrammar, action_name};
 
 use any_grammar::AnyGrammar;
 use expander::{Edition, Options};
+use replay_script::edition_of;
 
 /// What is done with a text.
 #[derive(Clone, Copy, PartialEq, Eq)]
@@ -44,20 +44,6 @@ pub(crate) struct Job<'a> {
     pub(crate) with: Vec<&'a str>,
     /// The path of the text's file; without one it is standard input.
     pub(crate) file: Option<&'a str>,
-}
-
-/// The edition of a name, if it is one's.
-pub(crate) fn edition_of(name: &str) -> Option<Edition>
-    ensures { MatchOption result ((e : Edition) → name.now ≢ edition_name e)
-        (λ e. name.now ≡ edition_name e) }
-{
-    match name {
-        "2015" => Some(Edition::Edition2015),
-        "2018" => Some(Edition::Edition2018),
-        "2021" => Some(Edition::Edition2021),
-        "2024" => Some(Edition::Edition2024),
-        _ => None,
-    }
 }
 
 // The grammar of a name, if it is one's; that of Rust is of this edition.

@@ -5,10 +5,11 @@ use crate::files::{misused, opened, read_whole, refused};
 use crate::job::Job;
 use crate::library::{CRATES, FILES, edition_in};
 use crate::other::{Other, other_of};
-use crate::picks::{push_file, push_library};
+use crate::picks::push_library;
 use crate::source::blank_front;
 use expander::{Edition, Home, Prelude, ReadFault, Source, SourceRead};
 use expander_run::lines::{FIRST, push_line, read_fault_words, spot_of};
+use replay_script::push_source;
 use std::alloc::{AllocError, AllocFailed, Global};
 use std::process::ExitCode;
 use std::{fs, io};
@@ -198,7 +199,7 @@ fn load_file(rt: &HostRuntime, others: &mut Others, number: u32, word: &str) -> 
     };
     let source = file_source(rt, number, home, path)?;
     others.names.push(String::from_str(rt.alloc(), path)?)?;
-    match push_file(rt.alloc(), &mut others.prelude, &source) {
+    match push_source(rt.alloc(), &mut others.prelude, &source) {
         Ok(()) => Ok(()),
         Err(fault) => refusal(rt, path, fault_words(fault)),
     }

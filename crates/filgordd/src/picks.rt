@@ -1,67 +1,30 @@
-//! Which definitions of other texts a text is expanded after.
+//! Which definitions of libraries a text is expanded after.
 ghost use Rattle.std.specs.Prelude.{◌≡◌, ◌<◌, ◌++◌, OnOk, flat_map, length};
 ghost use Rattle.expander_sources.specs.Sources.{item_at};
-ghost use Rattle.filgordd.specs.Picking.{is_of, is_picked, picks_at_side, picks_behind, picks_of, picks_of_file, picks_of_library};
-ghost use Rattle.filgordd.specs.declared.picks.Choice.TheVariants.{Exported};
+ghost use Rattle.filgordd.specs.Picking.{exports_of, is_exported, is_of, picks_at_side, picks_behind, picks_of_library};
 
 use expander::{Home, Prelude, Source};
 use std::alloc::Global;
 use tt_data::TtFault;
 
-/// Which definitions of a file are seen by their names.
-#[derive(Clone, Copy)]
-pub(crate) enum Choice {
-    /// Those outside its modules.
-    Outermost,
-    /// Those that its crate exports.
-    Exported,
-}
-
-// Whether a definition is picked: none is that the compiler has built in.
-fn is_picked(choice: Choice, source: &Source, i: usize) -> bool
+// Whether a definition is exported by its crate, and not built into the compiler.
+fn is_exported(source: &Source, i: usize) -> bool
     requires { i < length source.now.items }
-    ensures { result ≡ is_picked choice (item_at source.now.items i) }
+    ensures { result ≡ is_exported (item_at source.now.items i) }
 {
-    if source.has_attribute(i, "rustc_builtin_macro") {
-        return false;
-    }
-    match choice {
-        Choice::Outermost => source.modules(i).is_empty(),
-        Choice::Exported => source.has_attribute(i, "macro_export"),
-    }
+    !source.has_attribute(i, "rustc_builtin_macro") && source.has_attribute(i, "macro_export")
 }
 
-// Adds the definitions of a source that are seen by their names, in order.
-fn push_picks(
-    alloc: Global,
-    prelude: &mut Prelude,
-    choice: Choice,
-    source: &Source,
-) -> Result<(), TtFault>
-    ensures { OnOk result (prelude.new ≡ prelude.old ++ picks_of choice source.now) }
+// Adds the definitions that a source exports, in order, seen by their names.
+fn push_exports(alloc: Global, prelude: &mut Prelude, source: &Source) -> Result<(), TtFault>
+    ensures { OnOk result (prelude.new ≡ prelude.old ++ exports_of source.now) }
 {
     for i in 0..source.len() {
-        if is_picked(choice, source, i) {
+        if is_exported(source, i) {
             prelude.push(alloc, source, i)?;
         }
     }
     Ok(())
-}
-
-/// Adds the definitions of a file: those outside its modules, and, where it is of another crate,
-/// all behind the root of that crate.
-pub(crate) fn push_file(
-    alloc: Global,
-    prelude: &mut Prelude,
-    source: &Source,
-) -> Result<(), TtFault>
-    ensures { OnOk result (prelude.new ≡ prelude.old ++ picks_of_file source.now) }
-{
-    push_picks(alloc, prelude, Choice::Outermost, source)?;
-    match source.home() {
-        Some(home) => prelude.push_rooted(alloc, source, home),
-        None => Ok(()),
-    }
 }
 
 // Whether a source is of the crate with this root.
@@ -109,10 +72,10 @@ fn push_behind(
 
 // Adds the definitions that the sources export.
 fn push_exported(alloc: Global, prelude: &mut Prelude, sources: &[Source]) -> Result<(), TtFault>
-    ensures { OnOk result (prelude.new ≡ prelude.old ++ flat_map (picks_of Exported) sources.now) }
+    ensures { OnOk result (prelude.new ≡ prelude.old ++ flat_map exports_of sources.now) }
 {
     for source in sources {
-        push_picks(alloc, prelude, Choice::Exported, source)?;
+        push_exports(alloc, prelude, source)?;
     }
     Ok(())
 }

@@ -53,11 +53,13 @@ fn show(
 fn replay<R: Read + Drop>(
     rt: &HostRuntime,
     options: Options<AnyGrammar>,
+    prelude: Prelude,
     reader: R,
 ) -> io::Result<ExitCode> {
-    let mut reader = BufReader::new(rt.alloc(), reader)?;
+    let alloc = rt.alloc();
+    let mut reader = BufReader::new(alloc, reader)?;
     let mut writer = Watched::new(rt.stdout());
-    let Answered { lines, end } = answer_script(rt.alloc(), &mut reader, &mut writer, options);
+    let Answered { lines, end } = answer_script(alloc, &mut reader, &mut writer, options, prelude);
     match end {
         End::Whole => Ok(ExitCode::SUCCESS),
         End::Wrong(wrong) => {
@@ -95,7 +97,7 @@ fn work_on<R: Read + Drop>(
     reader: R,
 ) -> io::Result<ExitCode> {
     if job.action == Action::Replay {
-        return replay(rt, job.options, reader);
+        return replay(rt, job.options, prelude, reader);
     }
     match read_whole(rt.alloc(), reader) {
         Ok(mut text) => {

@@ -1,4 +1,11 @@
 mod EditLemmas
+mod HomeLemmas
+mod LawLemmas
 mod LineLemmas
+mod ListLemmas
+mod OriginLemmas
+mod PickLemmas
+mod ProgressLemmas
+mod PushLemmas
 mod ScriptLemmas
 mod WordLemmas

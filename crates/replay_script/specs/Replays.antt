@@ -2,11 +2,12 @@
 use Rattle.std.specs.Prelude.{◌≡◌, ◌≢◌, ℕ, ◌+◌, Bool, true, false, List, [], ◌++◌, length, take, Option, IfSome, codes, if◌then◌else◌, ⊤}
 use Rattle.std.specs.Io.KnownBytes.{Consumes}
 use Rattle.expander_model.specs.Meaning.{Layers}
-use Rattle.expander_session.specs.Answers.{AreAnswers}
-use Rattle.expander_session.specs.declared.commands.Answer.{Answer}
-use Rattle.expander_session.specs.declared.commands.Command.{Command}
+use Rattle.tt_data.specs.Forest.{Forest}
+use Rattle.replay_script.specs.Progress.{AreLineAnswers, begun_with}
 use Rattle.replay_script.specs.Scripts.{AreSaid, IsWrongLine}
 use Rattle.replay_script.specs.Told.{all_told}
+use Rattle.replay_script.specs.declared.answer.LineAnswer.{LineAnswer}
+use Rattle.replay_script.specs.declared.line.Line.{Line}
 use Rattle.replay_script.specs.declared.script.Answered.{Answered}
 use Rattle.replay_script.specs.declared.script.End.{End}
 use Rattle.replay_script.specs.declared.script.End.TheVariants.{Whole, Wrong, WriteFailed}
@@ -20,23 +21,23 @@ abbrev pub HasHead : List ℕ → Bool → List ℕ → Type 0
 HasHead text true lines = text ≡ asking ++ lines
 HasHead text false lines = (text ≡ lines) × ((rest : List ℕ) → text ≢ asking ++ rest)
 
--- the text of the answers to these commands, each at its turn, over an empty text at first
-abbrev pub AreTold : Layers → List Command → ℕ → Bool → List ℕ → Type 0
-AreTold layers commands depth origins told =
-    (answers : List Answer) × AreAnswers layers depth [] [] commands answers
+-- the text of the answers to these lines, each at its turn, over an empty text at first
+abbrev pub AreTold : Layers → ℕ → List Forest → List Line → Bool → List ℕ → Type 0
+AreTold layers depth prelude lines origins told =
+    (answers : List LineAnswer) × AreLineAnswers layers depth (begun_with prelude) lines answers
     × (told ≡ all_told origins answers)
 
--- a script of this many lines, each a command but for the line that asks for origins, and the text
--- of the answers
-pub record IsReplayed (layers : Layers) (depth : ℕ) (script : List ℕ) (count : ℕ)
-    (told : List ℕ) : Type 0 where
+-- a script of so many lines, but for the one that asks for origins, and the text of the answers. It
+-- begins with this prelude
+pub record IsReplayed (layers : Layers) (depth : ℕ) (prelude : List Forest) (script : List ℕ)
+    (count : ℕ) (told : List ℕ) : Type 0 where
   pub origins : Bool
-  pub lines : List ℕ
-  pub head : HasHead script origins lines
-  pub commands : List Command
-  pub said : AreSaid lines commands []
-  pub all : AreTold layers commands depth origins told
-  pub counted : count ≡ length commands + (if origins then 1 else 0)
+  pub rest : List ℕ
+  pub head : HasHead script origins rest
+  pub lines : List Line
+  pub said : AreSaid rest lines []
+  pub all : AreTold layers depth prelude lines origins told
+  pub counted : count ≡ length lines + (if origins then 1 else 0)
 
 -- what was written: the answers, or the first bytes of them if the writer failed
 abbrev pub IsWritten : End → (List ℕ → Type 0) → List ℕ → Type 0
@@ -55,16 +56,17 @@ HasCount Whole lines count = lines ≡ count
 HasCount (Wrong wrong) lines count = lines ≡ count + 1
 HasCount _ lines count = ⊤
 
--- a script is read from what a reader had left, and answered line by line: the lines that were
--- answered are a script by themselves, and what was read next is no part of it
-pub record Answers (layers : Layers) (depth : ℕ) (had left : Option (List ℕ))
-    (writes : List ℕ → Type 0) (result : Answered) : Type 0 where
+-- a script is read from what a reader had left, and answered line by line, after these definitions
+-- at first: the lines that were answered are a script by themselves, and what was read next is no
+-- part of it
+pub record Answers (layers : Layers) (depth : ℕ) (prelude : List Forest)
+    (had left : Option (List ℕ)) (writes : List ℕ → Type 0) (result : Answered) : Type 0 where
   pub script : List ℕ
   pub next : List ℕ
   pub count : ℕ
   pub told : List ℕ
   pub read : Consumes had left (script ++ next)
-  pub replayed : IsReplayed layers depth script count told
+  pub replayed : IsReplayed layers depth prelude script count told
   pub written : IsWritten result.«end» writes told
   pub ends : HasEnd result.«end» had script next
   pub lines : HasCount result.«end» result.lines count

@@ -9,6 +9,21 @@
 //!   replacement is the rest of the line; it may be empty. In it `\n` means a line feed, `\r` a
 //!   carriage return and `\\` a backslash. No other backslash is allowed.
 //! - `expand`: the text is expanded.
+//! - `source N HOME TEXT`: TEXT is read for its definitions, as the source N, a decimal number from
+//!   1 to `u32::MAX`. One space comes before each of the three. TEXT is the rest of the line, has
+//!   the escapes of a replacement, and means at most `u32::MAX` bytes. HOME is `-` where the source
+//!   is of the crate of the text that is expanded. Else it is `ROOT@EDITION`: the word that
+//!   `$crate` stands for, as `Home::new` takes it, and 2015, 2018, 2021 or 2024. Nothing is
+//!   expanded otherwise until the next `prelude` line. A number that comes again replaces its
+//!   source, for later `prelude` lines.
+//! - `prelude`, or `prelude WORD..` with one space before each word: from now on the text is
+//!   expanded after these definitions alone, a later one nearer. A word is `N`: the definitions of
+//!   the source N that are in no inline module and do not have the attribute
+//!   `rustc_builtin_macro`, in order. Or it is `N:I,I..`: those with these indices, in this order,
+//!   where 0 is the first of all definitions of the source, those in its inline modules too. N and
+//!   I are decimal numbers. After the definitions of a word come all of its source behind the root
+//!   of its HOME, if that is not `-`, but for those with that attribute: they are what `$crate::name!`
+//!   finds in definitions of that crate.
 //!
 //! Any other line is wrong, an empty one too, and so is a last line without a line feed. The lines
 //! before a wrong line are answered, and nothing after it is read.
@@ -23,17 +38,37 @@
 //!   Memory`, `refused Tokens` or `refused Numbers`; or by several lines: `printed N`, and then
 //!   the N bytes of printed text, the last of which, if any, ends a line; `fault KIND START END`
 //!   for each fault; `expanded N`, the number of pieces that the last text that was read did not
-//!   have; and `origin START END` for each printed token, if the script begins with `origins`.
+//!   have; and a line for each printed token, if the script begins with `origins`: `origin START
+//!   END` if it comes from the text, and `origin START END in N` if it comes from the source N.
+//! - A source by `source N DEFINITIONS`, with the number of its definitions; by `unread KIND START
+//!   END`, if TEXT has a reading fault, with offsets in what it means; or by `refused Memory` or
+//!   `refused Tokens`. Only after `source` has the source N changed.
+//! - A prelude by `prelude COUNT`, with the number of its definitions that are seen by their names;
+//!   by `bad prelude`, if there is no source N or it has no index I; or by `refused Memory` or
+//!   `refused Tokens`. Only after `prelude` has something changed.
 //!
 //! KIND is the name of a [`FaultKind`](expander::FaultKind) or a
 //! [`ReadFaultKind`](expander::ReadFaultKind), START and END are byte offsets in the text that
-//! was expanded.
+//! was expanded, or in the source N.
+//!
+//! A script may begin with a prelude. Up to its first `prelude COUNT` an origin's N is then the
+//! number of that prelude's source. No word can pick that source: words pick from `source` lines
+//! alone.
 #![tactic(auto)]
 
+mod answer;
+mod home;
+pub mod laws;
 mod line;
+mod picks;
 mod script;
+mod sources;
 mod tell;
+mod words;
 
-pub use line::Wrong;
+pub use answer::LineAnswer;
+pub use home::edition_of;
+pub use line::{Line, Pick, Wrong};
+pub use picks::push_source;
 pub use script::{Answered, End, answer_script};
 pub use tell::wrong_words;

@@ -1,19 +1,19 @@
 //! Answers a script line by line, and keeps nothing of a line that was answered.
-ghost use Rattle.std.specs.Prelude.{◌≡◌, ◌<◌, ◌^◌, ◌↔◌, IfOk, IsTrue, OnOk, false, string_bytes};
+ghost use Rattle.std.specs.Prelude.{◌≡◌, ◌↔◌, [], IfOk, IsTrue, None, OnOk, false, string_bytes};
 ghost use Rattle.std.specs.Io.KnownBytes.{Appends, Consumes};
-ghost use Rattle.expander_session.specs.CommandTurns.{Turn};
 ghost use Rattle.expander_session.specs.State.{layers_of as session_layers};
-ghost use Rattle.expander_session.specs.declared.commands.Answer.{Answer as AnswerOf};
 ghost use Rattle.expander_run.specs.Runs.{layers_of};
-ghost use Rattle.replay_script.specs.LineTurns.{AnswersLine, IsNext, ReadsLine};
+ghost use Rattle.replay_script.specs.LineTurns.{AnswersLine, IsAnswerable, IsNew, IsNext, LineTurn, ReadsLine};
 ghost use Rattle.replay_script.specs.Replays.{Answers, asking};
 ghost use Rattle.replay_script.specs.Told.{answer_told};
+ghost use Rattle.replay_script.specs.declared.answer.LineAnswer.{LineAnswer as LineAnswerOf};
 
-use crate::line::{Wrong, line_command};
+use crate::answer::answer_of;
+use crate::line::{Line, Wrong, read_line};
+use crate::sources::Sources;
 use crate::tell::push_answer;
-use expander::{Command, Options, Session, Watched};
+use expander::{Options, Prelude, Session, Watched};
 use expander_run::program::put;
-use expander_session::commands::answer_to;
 use fragment_grammar::FragmentGrammar;
 use std::alloc::{AllocError, Global};
 use std::io;
@@ -69,19 +69,21 @@ fn next_line<R: BufRead>(reader: &mut R, bytes: &mut Vec<u8>) -> Result<(), End>
     }
 }
 
-// The answer to a command, as text.
+// The answer to a line, as text.
 fn told_of<G: FragmentGrammar + Drop>(
     alloc: Global,
     session: &mut Session<G>,
-    command: &Command,
+    sources: &mut Sources,
+    line: Line,
     origins: bool,
 ) -> Result<String, AllocError>
-    ensures { IfOk result (λ told. (answer : AnswerOf)
-        × Turn (session_layers G.answer session.old) session.old session.new command.now answer
-        × (session.old.given < 2 ^ 32 → session.new.given < 2 ^ 32)
+    requires { IsAnswerable line }
+    ensures { IfOk result (λ told. (answer : LineAnswerOf)
+        × LineTurn (session_layers G.answer session.old) session.old session.new
+        sources.old sources.new line answer
         × (string_bytes told ≡ answer_told origins answer)) }
 {
-    let answer = answer_to(session, command);
+    let answer = answer_of(alloc, session, sources, line);
     let mut told = String::new(alloc);
     push_answer(&mut told, &answer, origins)?;
     Ok(told)
@@ -91,6 +93,7 @@ fn told_of<G: FragmentGrammar + Drop>(
 fn answer_line<G: FragmentGrammar + Drop, W: Write>(
     alloc: Global,
     session: &mut Session<G>,
+    sources: &mut Sources,
     writer: &mut Watched<W>,
     bytes: &[u8],
     origins: bool,
@@ -98,16 +101,16 @@ fn answer_line<G: FragmentGrammar + Drop, W: Write>(
     requires next { IsNext bytes.now }
     requires fresh { writer.old.failed ≡ false }
     ensures line { AnswersLine (session_layers G.answer session.old) session.old session.new
-        bytes.now origins
+        sources.old sources.new bytes.now origins
         (Appends (W.contents writer.old.inner) (W.contents writer.new.inner)) result }
     ensures fresh { OnOk result (writer.new.failed ≡ false) }
 {
-    let command = match line_command(alloc, bytes) {
-        Ok(Ok(command)) => command,
+    let line = match read_line(alloc, bytes) {
+        Ok(Ok(line)) => line,
         Ok(Err(wrong)) => return Err(End::Wrong(wrong)),
         Err(AllocError) => return Err(End::Memory),
     };
-    match told_of(alloc, session, &command, origins) {
+    match told_of(alloc, session, sources, line, origins) {
         Ok(told) => {
             if put(writer, told.as_bytes()) {
                 Ok(())
@@ -119,35 +122,20 @@ fn answer_line<G: FragmentGrammar + Drop, W: Write>(
     }
 }
 
-/// Answers the lines of a script, up to its end or its first wrong line, by a grammar, an edition
-/// and a number of levels. The answer to a line is written and flushed before the next line is
-/// read. The forms of lines and answers are at the head of this crate. The writer has not failed
-/// before.
-pub fn answer_script<G: FragmentGrammar + Drop, R: BufRead, W: Write>(
+// Answers the lines of a script by a session that has read nothing.
+fn answer_lines<G: FragmentGrammar + Drop, R: BufRead, W: Write>(
     alloc: Global,
+    mut session: Session<G>,
     reader: &mut R,
     writer: &mut Watched<W>,
-    options: Options<G>,
 ) -> Answered
-    requires { writer.old.failed ≡ false }
-    ensures { Answers (layers_of G.answer options) options.depth
+    requires new { IsNew session }
+    requires fresh { writer.old.failed ≡ false }
+    ensures { Answers (session_layers G.answer session) session.depth session.prelude
         (R.remaining reader.old) (R.remaining reader.new)
         (Appends (W.contents writer.old.inner) (W.contents writer.new.inner)) result }
 {
-    let Options {
-        grammar,
-        edition,
-        depth,
-    } = options;
-    let mut session = match Session::new(alloc, "", grammar, edition, depth) {
-        Ok(session) => session,
-        Err(AllocError) => {
-            return Answered {
-                lines: 0,
-                end: End::Memory,
-            };
-        }
-    };
+    let mut sources = Sources::new(alloc);
     let mut bytes = Vec::new(alloc);
     let mut origins = false;
     let mut lines = 0;
@@ -158,7 +146,14 @@ pub fn answer_script<G: FragmentGrammar + Drop, R: BufRead, W: Write>(
         let line = bytes.as_slice();
         if asks_for_origins(lines, line) {
             origins = true;
-        } else if let Err(end) = answer_line(alloc, &mut session, writer, line, origins) {
+        } else if let Err(end) = answer_line(
+            alloc,
+            &mut session,
+            &mut sources,
+            writer,
+            line,
+            origins,
+        ) {
             return Answered {
                 lines: lines + 1,
                 end,
@@ -169,5 +164,57 @@ pub fn answer_script<G: FragmentGrammar + Drop, R: BufRead, W: Write>(
     Answered {
         lines,
         end: End::TooLong,
+    }
+}
+
+// A session without a text, after these definitions.
+fn opened<G: FragmentGrammar + Drop>(
+    alloc: Global,
+    options: Options<G>,
+    prelude: Prelude,
+) -> Result<Session<G>, AllocError>
+    ensures { IfOk result (λ s. s ≡ record {
+      text = [];
+      grammar = options.grammar;
+      edition = options.edition;
+      depth = options.depth;
+      prelude = prelude;
+      held = None;
+      trees = [];
+      given = 0;
+    }) }
+{
+    let Options {
+        grammar,
+        edition,
+        depth,
+    } = options;
+    let mut session = Session::new(alloc, "", grammar, edition, depth)?;
+    session.set_prelude(prelude);
+    Ok(session)
+}
+
+/// Answers the lines of a script, up to its end or its first wrong line, by a grammar, an edition
+/// and a number of levels. Up to its first `prelude` line the text is expanded after this prelude.
+/// The answer to a line is written and flushed before the next line is read. The forms of lines and
+/// answers are at the head of this crate. The writer has not failed before.
+pub fn answer_script<G: FragmentGrammar + Drop, R: BufRead, W: Write>(
+    alloc: Global,
+    reader: &mut R,
+    writer: &mut Watched<W>,
+    options: Options<G>,
+    prelude: Prelude,
+) -> Answered
+    requires { writer.old.failed ≡ false }
+    ensures { Answers (layers_of G.answer options) options.depth prelude
+        (R.remaining reader.old) (R.remaining reader.new)
+        (Appends (W.contents writer.old.inner) (W.contents writer.new.inner)) result }
+{
+    match opened(alloc, options, prelude) {
+        Ok(session) => answer_lines(alloc, session, reader, writer),
+        Err(AllocError) => Answered {
+            lines: 0,
+            end: End::Memory,
+        },
     }
 }

@@ -1,11 +1,13 @@
 //! Writes answers as text.
 ghost use Rattle.std.specs.Prelude.{◌≡◌, ◌<◌, ◌++◌, OnOk, get_or, length, string_bytes};
 ghost use Rattle.tt_data.specs.declared.span.TextRange.{TextRange};
-ghost use Rattle.replay_script.specs.Told.{answer_told, expansion_told, fault_lines, kind_name, origin_line, origin_lines, place_line, read_kind_name, refusal_name, wrong_words};
+ghost use Rattle.replay_script.specs.Told.{answer_told, command_told, expansion_told, fault_lines, kind_name, origin_line, origin_lines, place_line, read_kind_name, refusal_name, refused_told, unread_told, wrong_words};
 
+use crate::answer::LineAnswer;
 use crate::line::Wrong;
 use expander::{
-    Answer, Expansion, Fault, FaultKind, ReadFault, ReadFaultKind, Refusal, Reply, TextRange,
+    Answer, Expansion, Fault, FaultKind, Origin, ReadFault, ReadFaultKind, Refusal, Reply,
+    TextRange,
 };
 use std::alloc::AllocError;
 
@@ -49,10 +51,18 @@ pub fn wrong_words(wrong: Wrong) -> &'static str
         Wrong::LineFeed => "no line feed ends it",
         Wrong::Utf8 => "it is not UTF-8",
         Wrong::CarriageReturn => "it has a carriage return, which a replacement writes \\r",
-        Wrong::Command => "it is neither `expand` nor `edit START END REPLACEMENT`",
+        Wrong::Command => {
+            "it is none of `expand`, `edit START END REPLACEMENT`, `source N HOME TEXT` and \
+            `prelude WORD..`"
+        }
         Wrong::Start => "no number and a space come after `edit`",
         Wrong::End => "no number and a space come after START",
         Wrong::Replacement => "in REPLACEMENT, n, r or a backslash comes after each backslash",
+        Wrong::Number => "no number from 1 to 4294967295 and a space come after `source`",
+        Wrong::Home => "neither `-` nor ROOT@EDITION and a space come after N",
+        Wrong::Text => "in TEXT, n, r or a backslash comes after each backslash",
+        Wrong::TooLong => "TEXT has more than 4294967295 bytes",
+        Wrong::Pick => "after `prelude`, N or N:I,I.. comes after each space",
     }
 }
 
@@ -77,21 +87,29 @@ fn push_faults(told: &mut String, faults: &[Fault]) -> Result<(), AllocError>
 }
 
 // Adds the line of an origin.
-fn push_origin(told: &mut String, place: TextRange) -> Result<(), AllocError>
-    ensures { OnOk result (string_bytes told.new ≡ string_bytes told.old ++ origin_line place) }
+fn push_origin(told: &mut String, origin: Origin) -> Result<(), AllocError>
+    ensures { OnOk result (string_bytes told.new
+        ≡ string_bytes told.old ++ origin_line origin.range origin.text) }
 {
-    let TextRange { start, end } = place;
-    writeln!(told, "origin {start} {end}")
+    let Origin { text, range } = origin;
+    let TextRange { start, end } = range;
+    if text == 0 {
+        writeln!(told, "origin {start} {end}")
+    } else {
+        writeln!(told, "origin {start} {end} in {text}")
+    }
 }
 
 // Adds the line of a printed token's origin.
 fn push_origin_of(told: &mut String, found: &Expansion, i: usize) -> Result<(), AllocError>
     requires { i < length found.now.origins }
-    ensures { (d : TextRange) → OnOk result (string_bytes told.new
-        ≡ string_bytes told.old ++ origin_line (get_or found.now.origins i d)) }
+    ensures told { (place : TextRange) → OnOk result (string_bytes told.new
+        ≡ string_bytes told.old
+        ++ origin_line (get_or found.now.origins i place) (get_or found.now.texts i 0)) }
+    ensures within { i < length found.now.texts }
 {
     match found.source(i) {
-        Some(origin) => push_origin(told, origin.range),
+        Some(origin) => push_origin(told, origin),
         None => Ok(()),
     }
 }
@@ -99,7 +117,7 @@ fn push_origin_of(told: &mut String, found: &Expansion, i: usize) -> Result<(), 
 // Adds a line for each origin.
 fn push_origins(told: &mut String, found: &Expansion) -> Result<(), AllocError>
     ensures { OnOk result (string_bytes told.new
-        ≡ string_bytes told.old ++ origin_lines found.now.origins) }
+        ≡ string_bytes told.old ++ origin_lines found.now.origins found.now.texts) }
 {
     for i in 0..found.tokens() {
         push_origin_of(told, found, i)?;
@@ -125,25 +143,53 @@ fn push_expansion(told: &mut String, found: &Expansion, origins: bool) -> Result
     Ok(())
 }
 
+// Adds the line of a reading fault.
+fn push_unread(told: &mut String, fault: ReadFault) -> Result<(), AllocError>
+    ensures { OnOk result (string_bytes told.new ≡ string_bytes told.old ++ unread_told fault) }
+{
+    push_place(told, "unread", read_kind_name(fault.kind), fault.range)
+}
+
+// Adds the line of a refusal.
+fn push_refused(told: &mut String, refusal: Refusal) -> Result<(), AllocError>
+    ensures { OnOk result (string_bytes told.new ≡ string_bytes told.old ++ refused_told refusal) }
+{
+    let name = refusal_name(refusal);
+    writeln!(told, "refused {name}")
+}
+
+// Adds the lines of an answer to a command.
+fn push_command(told: &mut String, answer: &Answer, origins: bool) -> Result<(), AllocError>
+    ensures { OnOk result (string_bytes told.new
+        ≡ string_bytes told.old ++ command_told origins answer.now) }
+{
+    match answer {
+        Answer::Edited => told.push_str("edited\n"),
+        Answer::BadEdit => told.push_str("bad edit\n"),
+        Answer::Reply(Reply::Read(found)) => push_expansion(told, found, origins),
+        Answer::Reply(Reply::Unread(fault)) => push_unread(told, *fault),
+        Answer::Refused(refusal) => push_refused(told, *refusal),
+    }
+}
+
 /// Adds the lines of an answer.
 pub(crate) fn push_answer(
     told: &mut String,
-    answer: &Answer,
+    answer: &LineAnswer,
     origins: bool,
 ) -> Result<(), AllocError>
     ensures { OnOk result (string_bytes told.new
         ≡ string_bytes told.old ++ answer_told origins answer.now) }
 {
     match answer {
-        Answer::Edited => told.push_str("edited\n"),
-        Answer::BadEdit => told.push_str("bad edit\n"),
-        Answer::Reply(Reply::Read(found)) => push_expansion(told, found, origins),
-        Answer::Reply(Reply::Unread(ReadFault { kind, range })) => {
-            push_place(told, "unread", read_kind_name(*kind), *range)
-        }
-        Answer::Refused(refusal) => {
-            let name = refusal_name(*refusal);
-            writeln!(told, "refused {name}")
-        }
+        LineAnswer::Command(answer) => push_command(told, answer, origins),
+        LineAnswer::Source {
+            number,
+            definitions,
+        } => writeln!(told, "source {number} {definitions}"),
+        LineAnswer::Unread(fault) => push_unread(told, *fault),
+        LineAnswer::Prelude(count) => writeln!(told, "prelude {count}"),
+        LineAnswer::BadPrelude => told.push_str("bad prelude\n"),
+        LineAnswer::Refused(refusal) => push_refused(told, *refusal),
     }
 }

@@ -1,6 +1,0 @@
-use Rattle.std.proofs.Common.{◌≡◌, drop}
-use Rattle.replay_script.specs.Scripts.{left_of, unescaped}
-use Rattle.replay_script.proofs.line.unescaped.Given as goal
-
-abbrev pub invariant-loop-byte : goal.invariant-loop-byte
-invariant-loop-byte l = left_of l.is_escape l.bytes.items (drop l.byte-index l.text) ≡ unescaped l.text
