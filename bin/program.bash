@@ -162,9 +162,8 @@ take_file() {
     [ "${words[$1]}" = - ] || check_file "${words[$1]}"
 }
 
-# Refuses a value that the option does not take, and an option that the command does not.
+# Refuses a value that the option does not take.
 check_value() {
-    case ${words[0]}$1 in replay--std | replay--with) misused "replay has no option $1" ;; esac
     case $1=$2 in
         --std=*) check_library "$2" && return ;;
         --with=*) check_other "$2" && return ;;

@@ -5,8 +5,8 @@ use crate::opened::{found, opened};
 use crate::scripts::OPTIONS;
 use any_grammar::AnyGrammar;
 use expander::{
-    Answer, Command, Edition, Expansion, Options, Prelude, Refusal, Reply, Session, SmallGrammar, Status,
-    TextRange, Watched, replay, run, run_with,
+    Answer, Command, Edition, Expansion, Options, Prelude, Refusal, Reply, Session, SmallGrammar,
+    Status, TextRange, Watched, replay, run, run_with,
 };
 use replay_script::{Answered, End, answer_script};
 use std::alloc::{AllocError, Global};
@@ -247,46 +247,62 @@ fn refused_runs(rt: HostRuntime) -> Result<(), Fail> {
     Ok(())
 }
 
-const SCRIPT: &[u8] = b"edit 0 0 a;\nexpand\nedit 2 2 b;\nexpand\n";
+// A script, how many lines it has, and the bytes of the answers to so many lines. What is written for
+// it; and what for it if one of its lines is refused: the answers to a script without that line, and
+// its refusal.
+struct RefusedScript {
+    script: &'static str,
+    lines: usize,
+    sizes: [usize; 5],
+    answers: [&'static str; 5],
+}
 
-// What is written for the script; and what for it if one of its commands is refused: the answers to
-// a script without that command, and its refusal.
-const ANSWERS: [&str; 5] = [
-    "edited\nprinted 4\na ;\nexpanded 1\nedited\nprinted 8\na ;\nb ;\nexpanded 1\n",
-    "refused Memory\nprinted 0\nexpanded 0\nbad edit\nprinted 0\nexpanded 0\n",
-    "edited\nrefused Memory\nedited\nprinted 8\na ;\nb ;\nexpanded 2\n",
-    "edited\nprinted 4\na ;\nexpanded 1\nrefused Memory\nprinted 4\na ;\nexpanded 0\n",
-    "edited\nprinted 4\na ;\nexpanded 1\nedited\nrefused Memory\n",
+const SCRIPTS: [RefusedScript; 2] = [
+    RefusedScript {
+        script: "edit 0 0 a;\nexpand\nedit 2 2 b;\nexpand\n",
+        lines: 4,
+        sizes: [0, 7, 32, 39, 68],
+        answers: [
+            "edited\nprinted 4\na ;\nexpanded 1\nedited\nprinted 8\na ;\nb ;\nexpanded 1\n",
+            "refused Memory\nprinted 0\nexpanded 0\nbad edit\nprinted 0\nexpanded 0\n",
+            "edited\nrefused Memory\nedited\nprinted 8\na ;\nb ;\nexpanded 2\n",
+            "edited\nprinted 4\na ;\nexpanded 1\nrefused Memory\nprinted 4\na ;\nexpanded 0\n",
+            "edited\nprinted 4\na ;\nexpanded 1\nedited\nrefused Memory\n",
+        ],
+    },
+    RefusedScript {
+        script: "source 1 a@2021 macro_rules! m { () => { 1 } }\nprelude 1:0\nedit 0 0 m!{}\nexpand\n",
+        lines: 4,
+        sizes: [0, 11, 21, 28, 51],
+        answers: [
+            "source 1 1\nprelude 1\nedited\nprinted 2\n1\nexpanded 1\n",
+            "refused Memory\nbad prelude\nedited\nprinted 8\nm ! { }\nexpanded 1\n",
+            "source 1 1\nrefused Memory\nedited\nprinted 8\nm ! { }\nexpanded 1\n",
+            "source 1 1\nprelude 1\nrefused Memory\nprinted 0\nexpanded 0\n",
+            "source 1 1\nprelude 1\nedited\nrefused Memory\n",
+        ],
+    },
 ];
 
-// The bytes of the answers to so many lines.
-const SIZES: [usize; 5] = [0, 7, 32, 39, 68];
-
 // Whether memory ran out after so many lines and bytes: for the next line, or for its answer.
-fn is_end(lines: usize, bytes: usize) -> bool {
-    let sizes = SIZES.as_slice();
+fn is_end(sizes: &[usize], lines: usize, bytes: usize) -> bool {
     sizes.get(lines) == Some(&bytes) || (lines > 0 && sizes.get(lines - 1) == Some(&bytes))
 }
 
 // Whether a script is answered, or if it was refused what is said of that. It may be the writer's
 // own memory that is refused.
-fn is_answered_script(alloc: Global) -> Option<bool> {
-    let mut reader = SCRIPT;
+fn is_answered_script(alloc: Global, row: &RefusedScript) -> Option<bool> {
+    let mut reader = row.script.as_bytes();
     let mut writer = Watched::new(wide(alloc));
-    let Answered { lines, end } = answer_script(
-        alloc,
-        &mut reader,
-        &mut writer,
-        OPTIONS,
-        Prelude::new(alloc),
-    );
+    let none = Prelude::new(alloc);
+    let Answered { lines, end } = answer_script(alloc, &mut reader, &mut writer, OPTIONS, none);
     let got = writer.into_inner().got;
     let got = std::str::from_utf8(got.as_slice()).ok()?;
-    let is_front = ANSWERS[0].as_bytes().starts_with(got.as_bytes());
+    let is_front = row.answers[0].as_bytes().starts_with(got.as_bytes());
     match end {
-        End::Whole if lines == 4 && got == ANSWERS[0] => Some(true),
-        End::Whole if lines == 4 && ANSWERS.as_slice().contains(&got) => Some(false),
-        End::Memory if is_front && is_end(lines, got.len()) => Some(false),
+        End::Whole if lines == row.lines && got == row.answers[0] => Some(true),
+        End::Whole if lines == row.lines && row.answers.as_slice().contains(&got) => Some(false),
+        End::Memory if is_front && is_end(row.sizes.as_slice(), lines, got.len()) => Some(false),
         End::WriteFailed if is_front => Some(false),
         _ => None,
     }
@@ -294,8 +310,10 @@ fn is_answered_script(alloc: Global) -> Option<bool> {
 
 #[test]
 fn refused_scripts(rt: HostRuntime) -> Result<(), Fail> {
-    let first = is_answered_script(rt.alloc());
-    assert!(rt; first.is_some());
-    assert!(rt; first == Some(true) || is_answered_script(rt.alloc()) == Some(true));
+    for row in &SCRIPTS {
+        let first = is_answered_script(rt.alloc(), row);
+        assert!(rt; first.is_some());
+        assert!(rt; first == Some(true) || is_answered_script(rt.alloc(), row) == Some(true));
+    }
     Ok(())
 }

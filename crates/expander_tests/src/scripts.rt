@@ -7,7 +7,7 @@ use std::io::BufReader;
 use std::test::Fail;
 
 // A script, what is written, the number of lines and the end.
-const ROWS: [(&str, &str, usize, &str); 14] = [
+const ROWS: [(&str, &str, usize, &str); 28] = [
     ("", "", 0, "Whole"),
     ("origins\n", "", 1, "Whole"),
     ("origins", "", 1, "Wrong(LineFeed)"),
@@ -37,6 +37,30 @@ const ROWS: [(&str, &str, usize, &str); 14] = [
     ("edit 0 0\n", "", 1, "Wrong(End)"),
     ("edit\n", "", 1, "Wrong(Command)"),
     ("\n", "", 1, "Wrong(Command)"),
+    (
+        "source 1 - macro_rules! m { () => { 1 } }\nprelude 1\nedit 0 0 m!{}\nexpand\n",
+        "source 1 1\nprelude 1\nedited\nprinted 2\n1\nexpanded 1\n",
+        4,
+        "Whole",
+    ),
+    (
+        "source 1 a@2021 m\nprelude 1:0\nprelude 2\nprelude 1 1\nprelude\n",
+        "source 1 0\nbad prelude\nbad prelude\nprelude 0\nprelude 0\n",
+        5,
+        "Whole",
+    ),
+    ("source 1 - (\n", "unread GroupLeftOpen 0 1\n", 1, "Whole"),
+    ("source 0 - \n", "", 1, "Wrong(Number)"),
+    ("source 4294967296 - \n", "", 1, "Wrong(Number)"),
+    ("source 1 -\n", "", 1, "Wrong(Home)"),
+    ("source 1 crate@2021 \n", "", 1, "Wrong(Home)"),
+    ("source 1 a@2020 \n", "", 1, "Wrong(Home)"),
+    ("source 1 - \\q\n", "", 1, "Wrong(Text)"),
+    ("prelude \n", "", 1, "Wrong(Pick)"),
+    ("prelude 1  2\n", "", 1, "Wrong(Pick)"),
+    ("prelude 1:\n", "", 1, "Wrong(Pick)"),
+    ("prelude 1:1,\n", "", 1, "Wrong(Pick)"),
+    ("prelude1\n", "", 1, "Wrong(Command)"),
 ];
 
 pub(crate) const OPTIONS: Options<SmallGrammar> = Options {
@@ -89,7 +113,13 @@ fn a_writer_that_fails(rt: HostRuntime) -> Result<(), Fail> {
     let mut narrow = wide(rt.alloc());
     narrow.room = 9;
     let mut writer = Watched::new(narrow);
-    let answered = answer_script(rt.alloc(), &mut reader, &mut writer, OPTIONS, Prelude::new(rt.alloc()));
+    let answered = answer_script(
+        rt.alloc(),
+        &mut reader,
+        &mut writer,
+        OPTIONS,
+        Prelude::new(rt.alloc()),
+    );
     let writer = writer.into_inner();
     assert!(rt; matches!(answered.end, End::WriteFailed) && reader == b"expand\n".as_slice());
     assert!(rt; writer.got.as_slice() == b"edited\npr".as_slice() && !writer.asked_again);

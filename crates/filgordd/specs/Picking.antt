@@ -9,7 +9,8 @@ use Rattle.expander_sources.specs.Sources.{Item, Source, has_attribute}
 -- a definition is exported by its crate, and the compiler does not have it built in
 abbrev pub is_exported : Item → Bool
 is_exported i =
-    not (has_attribute (codes "rustc_builtin_macro") i.piece) && has_attribute (codes "macro_export") i.piece
+    not (has_attribute (codes "rustc_builtin_macro") i.piece)
+    && has_attribute (codes "macro_export") i.piece
 
 -- such definitions of a source, in order, seen by their names
 abbrev pub exports_of : Source → List Forest

@@ -97,7 +97,7 @@ fn work_on<R: Read + Drop>(
     reader: R,
 ) -> io::Result<ExitCode> {
     if job.action == Action::Replay {
-        return replay(rt, job.options, prelude, reader);
+        return replay(rt, job.options, others.prelude, reader);
     }
     match read_whole(rt.alloc(), reader) {
         Ok(mut text) => {

@@ -2,7 +2,8 @@
 use Rattle.std.proofs.Common.{◌≡◌, ℕ, ◌+◌, ◌<◌, List, [], ◌∷◌, ◌++◌, length, drop, refl, sym, ap, ◌∙◌, append_assoc, append-nil, get_or, Bool, true, false, arith, length-append}
 use Rattle.std.specs.Prelude.{Option, Some, None, flat_map, option_map, option_and_then, slice_get, zero, suc, if◌then◌else◌}
 use Rattle.std.proofs.lemmas.List.{drop_more}
-use Rattle.replay_script.specs.Words.{escape_of, is_backslash, left_of, unescaped, unescaped_behind}
+use Rattle.replay_script.specs.LineReads.{left_of}
+use Rattle.replay_script.specs.Words.{escape_of, is_backslash, unescaped, unescaped_behind}
 
 -- one more is told
 pub one_more : {X : Type 0} (told : X → List ℕ) (xs : List X) (i : ℕ) (x : X) (old new all : List ℕ) → i < length xs

@@ -1,11 +1,15 @@
 -- What a line of a script is read as.
-use Rattle.std.specs.Prelude.{◌≡◌, ◌≢◌, ◌<◌, ◌^◌, List, Result, Ok, Err, Some, ℕ, [], codes, length, string_bytes}
+use Rattle.std.specs.Prelude.{◌≡◌, ◌≢◌, ◌<◌, ◌^◌, ◌++◌, Bool, List, Option, Result, Ok, Err, Some, ℕ, [], codes, length, option_map, string_bytes}
 use Rattle.expander_session.specs.declared.commands.Command.TheVariants.{Edit}
 use Rattle.replay_script.specs.Scripts.{HasLine, IsPick, IsWrong, IsWrongEdit, IsWrongLine, IsWrongPrelude, IsWrongSource, Says, SaysEdit, SaysSource}
-use Rattle.replay_script.specs.Words.{Lists, unescaped}
+use Rattle.replay_script.specs.Words.{Lists, unescaped, unescaped_behind}
 use Rattle.replay_script.specs.declared.line.Line.{Line}
 use Rattle.replay_script.specs.declared.line.Line.TheVariants.{Command as Commanding, Source as Reading, Prelude as Picking}
 use Rattle.replay_script.specs.declared.line.Wrong.{Wrong}
+
+-- the bytes so far, before what the rest of a replacement means
+abbrev pub left_of : Bool → List ℕ → List ℕ → Option (List ℕ)
+left_of is_escape bytes rest = option_map (λ m. bytes ++ m) (unescaped_behind is_escape rest)
 
 -- a text that this means, short enough for a source
 pub record IsSourceText (last text : List ℕ) : Type 0 where

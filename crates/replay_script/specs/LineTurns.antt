@@ -69,7 +69,8 @@ pub record Reads (old new : Sources) (n : ℕ) (home : Option Home) (text : List
   pub kept : SourcesAfter old new n home text answer
 
 -- the session after words picked definitions, or not
-abbrev pub SessionAfter : {G : Type 0} → State G → State G → Sources → List Pick → LineAnswer → Type 0
+abbrev pub SessionAfter : {G : Type 0} → State G → State G → Sources → List Pick → LineAnswer
+    → Type 0
 SessionAfter old new sources picks (told.Prelude count) =
     (ps : List Picked) × (all_picked (source_in sources) picks ≡ Some ps)
     × (new ≡ record old { prelude = prelude_of ps })
@@ -108,8 +109,8 @@ pub record Answering {G : Type 0} (layers : Layers) (old new : State G) (had hav
   pub is_told : told ≡ answer_told origins answer
 
 -- a line was answered and its answer written, or why not
-abbrev pub AnswersLine : {G : Type 0} → Layers → State G → State G → Sources → Sources → List ℕ → Bool
-    → (List ℕ → Type 0) → Result ⊤ End → Type 0
+abbrev pub AnswersLine : {G : Type 0} → Layers → State G → State G → Sources → Sources → List ℕ
+    → Bool → (List ℕ → Type 0) → Result ⊤ End → Type 0
 AnswersLine layers old new had have bytes origins writes (Ok _) =
     (told : List ℕ) × Answering layers old new had have bytes origins told × writes told
 AnswersLine layers old new had have bytes origins writes (Err WriteFailed) =

@@ -58,7 +58,8 @@ pub record Picked : Type 0 where
   pub rooted : List Forest
 
 abbrev pub picked_of : Option (List ℕ) → Source → Option Picked
-picked_of indices s = option_map (λ ps. record { named = ps; rooted = behind_own s }) (named_by s indices)
+picked_of indices s =
+    option_map (λ ps. record { named = ps; rooted = behind_own s }) (named_by s indices)
 
 abbrev pub picked_by : SourceTable → Pick → Option Picked
 picked_by sources pick = option_and_then (picked_of (indices_of pick)) (sources pick.source)
@@ -67,7 +68,8 @@ picked_by sources pick = option_and_then (picked_of (indices_of pick)) (sources 
 abbrev pub all_picked : SourceTable → List Pick → Option (List Picked)
 all_picked sources [] = Some []
 all_picked sources (p ∷ ps) =
-    option_and_then (λ first. option_map (λ more. first ∷ more) (all_picked sources ps)) (picked_by sources p)
+    option_and_then (λ first. option_map (λ more. first ∷ more) (all_picked sources ps))
+    (picked_by sources p)
 
 -- the prelude that they make, the nearest last
 abbrev pub prelude_of : List Picked → List Forest

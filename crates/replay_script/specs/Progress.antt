@@ -59,7 +59,8 @@ after_command at command answer =
 
 -- what a text of this number and home is as a source
 abbrev pub source_of : ℕ → Option Home → Result Forest ReadFault → Result Source ReadFault
-source_of number home (Ok f) = Ok (record { number = number; home = home; items = source_items number f })
+source_of number home (Ok f) =
+    Ok (record { number = number; home = home; items = source_items number f })
 source_of number home (Err fault) = Err fault
 
 abbrev pub source_read : ℕ → Option Home → List ℕ → Result Source ReadFault
@@ -77,8 +78,10 @@ after_picks at None = at
 -- that was picked, change something beside commands
 abbrev pub after : Progress → Line → LineAnswer → Progress
 after at (asked.Command command) (told.Command answer) = after_command at command answer
-after at (asked.Source n home text) (told.Source m definitions) = after_source at (source_read n home (string_bytes text))
-after at (asked.Prelude picks) (told.Prelude count) = after_picks at (all_picked at.sources picks.items)
+after at (asked.Source n home text) (told.Source m definitions) =
+    after_source at (source_read n home (string_bytes text))
+after at (asked.Prelude picks) (told.Prelude count) =
+    after_picks at (all_picked at.sources picks.items)
 after at _ _ = at
 
 -- ---- what may answer a line
@@ -95,7 +98,8 @@ IsPreludeTold None count = ⊥
 
 -- what may answer a text that is to be a source
 abbrev pub IsSourceAnswer : ℕ → Option Home → List ℕ → LineAnswer → Type 0
-IsSourceAnswer n home text (told.Source m definitions) = IsSourceTold (source_read n home text) m definitions
+IsSourceAnswer n home text (told.Source m definitions) =
+    IsSourceTold (source_read n home text) m definitions
 IsSourceAnswer n home text (told.Unread fault) = source_read n home text ≡ Err fault
 IsSourceAnswer n home text (told.Refused Memory) = ⊤
 IsSourceAnswer n home text (told.Refused Tokens) = text_tokens.HasTooMany (text_steps text)
@@ -127,26 +131,33 @@ module _ (layers : Layers) (depth : ℕ) where
   -- how many ids were given to definitions
   abbrev pub given_to : List Reading → ℕ
   given_to [] = 0
-  given_to (r ∷ before) = given_in (given_to before) (trees_last before) r.prelude (meaning_of_reading r)
+  given_to (r ∷ before) =
+      given_in (given_to before) (trees_last before) r.prelude (meaning_of_reading r)
 
   -- what may answer a command, as `IsAnswer` says it without a prelude
   abbrev pub IsCommandAnswer : Progress → Command → Answer → Type 0
-  IsCommandAnswer at (Edit start stop replacement) Edited = CanEdit at.text start stop (string_bytes replacement)
-  IsCommandAnswer at (Edit start stop replacement) BadEdit = CanEdit at.text start stop (string_bytes replacement) → ⊥
-  IsCommandAnswer at (Edit start stop replacement) (Refused Memory) = CanEdit at.text start stop (string_bytes replacement)
+  IsCommandAnswer at (Edit start stop replacement) Edited =
+      CanEdit at.text start stop (string_bytes replacement)
+  IsCommandAnswer at (Edit start stop replacement) BadEdit =
+      CanEdit at.text start stop (string_bytes replacement) → ⊥
+  IsCommandAnswer at (Edit start stop replacement) (Refused Memory) =
+      CanEdit at.text start stop (string_bytes replacement)
   IsCommandAnswer at Expand (Replied reply) =
       IsReplyIn layers depth (definitions_of at.prelude) at.text (looked_last at.readings) reply
   IsCommandAnswer at Expand (Refused Memory) = ⊤
-  IsCommandAnswer at Expand (Refused Tokens) = NeedsTooManyIn layers depth (definitions_of at.prelude) at.text
+  IsCommandAnswer at Expand (Refused Tokens) =
+      NeedsTooManyIn layers depth (definitions_of at.prelude) at.text
   IsCommandAnswer at Expand (Refused Numbers) =
-      NeedsNumbersIn (given_to at.readings) (trees_last at.readings) at.prelude (meaning_of_reading (present at))
+      NeedsNumbersIn (given_to at.readings) (trees_last at.readings) at.prelude
+      (meaning_of_reading (present at))
   IsCommandAnswer at _ _ = ⊥
 
   -- what may answer a line
   abbrev pub IsLineAnswer : Progress → Line → LineAnswer → Type 0
   IsLineAnswer at (asked.Command command) (told.Command answer) = IsCommandAnswer at command answer
   IsLineAnswer at (asked.Command command) _ = ⊥
-  IsLineAnswer at (asked.Source n home text) answer = IsSourceAnswer n home (string_bytes text) answer
+  IsLineAnswer at (asked.Source n home text) answer =
+      IsSourceAnswer n home (string_bytes text) answer
   IsLineAnswer at (asked.Prelude picks) answer = IsPreludeAnswer at.sources picks.items answer
 
   -- each line has one answer, by where the script stands at its turn

@@ -33,7 +33,8 @@ pub record IsSourceNumber (n : ℕ) : Type 0 where
   pub fits : n < 2 ^ 32
 
 -- a line, without its `source `, has a number, a home and then a text
-pub record SaysSource (line : List ℕ) (number : ℕ) (home : Option Home) (text : List ℕ) : Type 0 where
+pub record SaysSource (line : List ℕ) (number : ℕ) (home : Option Home)
+    (text : List ℕ) : Type 0 where
   pub rest : List ℕ
   pub last : List ℕ
   pub numbered : HasNumber line number rest

@@ -41,7 +41,7 @@ wrong_words fault.LineFeed = codes "no line feed ends it"
 wrong_words fault.Utf8 = codes "it is not UTF-8"
 wrong_words fault.CarriageReturn = codes "it has a carriage return, which a replacement writes \\r"
 wrong_words fault.Command =
-    codes "it is none of `expand`, `edit START END REPLACEMENT`, `source N HOME TEXT` and `prelude WORD..`"
+    codes "it is no `expand`, `edit START END REPLACEMENT`, `source N HOME TEXT` or `prelude WORD..`"
 wrong_words fault.Start = codes "no number and a space come after `edit`"
 wrong_words fault.End = codes "no number and a space come after START"
 wrong_words fault.Replacement =
@@ -66,7 +66,8 @@ text_words text = if nat_eq text 0 then [] else codes " in " ++ decimal text
 
 abbrev pub origin_line : TextRange → ℕ → List ℕ
 origin_line place text =
-    codes "origin " ++ (decimal place.start ++ (codes " " ++ (decimal place.«end» ++ (text_words text ++ (10 ∷ [])))))
+    codes "origin " ++ (decimal place.start ++ (codes " "
+    ++ (decimal place.«end» ++ (text_words text ++ (10 ∷ [])))))
 
 abbrev pub fault_lines : List Fault → List ℕ
 fault_lines faults = flat_map fault_line faults
@@ -80,8 +81,10 @@ origin_lines _ _ = []
 -- its origins if asked for
 abbrev pub expansion_told : Bool → Expanded → List ℕ
 expansion_told origins e =
-    (codes "printed " ++ (decimal (length e.printed) ++ (10 ∷ []))) ++ (e.printed ++ (fault_lines e.faults
-    ++ ((codes "expanded " ++ (decimal e.expanded ++ (10 ∷ []))) ++ (if origins then origin_lines e.origins e.texts else []))))
+    (codes "printed " ++ (decimal (length e.printed) ++ (10 ∷ [])))
+    ++ (e.printed ++ (fault_lines e.faults
+    ++ ((codes "expanded " ++ (decimal e.expanded ++ (10 ∷ [])))
+    ++ (if origins then origin_lines e.origins e.texts else []))))
 
 abbrev pub unread_told : ReadFault → List ℕ
 unread_told fault = place_line (codes "unread") (read_kind_name fault.kind) fault.range

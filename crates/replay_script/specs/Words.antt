@@ -1,4 +1,4 @@
--- What words of a line mean: numbers, escapes, and lists with a mark between items. (Of this project.)
+-- What the words of a line mean: escapes, numbers, lists and homes. (Of this project.)
 use Rattle.std.specs.Prelude.{◌≡◌, ◌≢◌, ◌<◌, ◌^◌, ℕ, Bool, true, false, List, [], ◌∷◌, ◌++◌, Option, Some, None, option_map, option_and_then, get_or, length, nat_eq, if◌then◌else◌}
 use Rattle.std.specs.Str.Parse.{IsNumeral, digits_value, without_leading_plus}
 use Rattle.expander_sources.specs.Homes.{Home, home_named}
@@ -26,13 +26,11 @@ abbrev pub unescaped_behind : Bool → List ℕ → Option (List ℕ)
 unescaped_behind false [] = Some []
 unescaped_behind true [] = None
 unescaped_behind false (b ∷ more) =
-    if is_backslash b then unescaped_behind true more else option_map (λ bytes. b ∷ bytes) (unescaped_behind false more)
+    if is_backslash b then unescaped_behind true more
+    else option_map (λ bytes. b ∷ bytes) (unescaped_behind false more)
 unescaped_behind true (b ∷ more) =
-    option_and_then (λ byte. option_map (λ bytes. byte ∷ bytes) (unescaped_behind false more)) (escape_of b)
-
--- the bytes so far, before what the rest of a replacement means
-abbrev pub left_of : Bool → List ℕ → List ℕ → Option (List ℕ)
-left_of is_escape bytes rest = option_map (λ m. bytes ++ m) (unescaped_behind is_escape rest)
+    option_and_then (λ byte. option_map (λ bytes. byte ∷ bytes) (unescaped_behind false more))
+    (escape_of b)
 
 abbrev pub unescaped : List ℕ → Option (List ℕ)
 unescaped = unescaped_behind false
@@ -74,4 +72,5 @@ IsHome word (Some home) =
 
 -- a text begins with such a word and a space, and this follows
 abbrev pub HasHome : List ℕ → Option Home → List ℕ → Type 0
-HasHome text home rest = (word : List ℕ) × (text ≡ word ++ 32 ∷ rest) × Lacks 32 word × IsHome word home
+HasHome text home rest =
+    (word : List ℕ) × (text ≡ word ++ 32 ∷ rest) × Lacks 32 word × IsHome word home

@@ -19,11 +19,11 @@
 //! - `prelude`, or `prelude WORD..` with one space before each word: from now on the text is
 //!   expanded after these definitions alone, a later one nearer. A word is `N`: the definitions of
 //!   the source N that are in no inline module and do not have the attribute
-//!   `rustc_builtin_macro`, in order. Or it is `N:I,I..`: those with these indices, in this order,
-//!   where 0 is the first of all definitions of the source, those in its inline modules too. N and
-//!   I are decimal numbers. After the definitions of a word come all of its source behind the root
-//!   of its HOME, if that is not `-`, but for those with that attribute: they are what `$crate::name!`
-//!   finds in definitions of that crate.
+//!   `rustc_builtin_macro`, in order. Or it is `N:I,I..`: those with these indices, in this order.
+//!   Index 0 is the first of all definitions of the source, and those in its inline modules are
+//!   counted too. N and I are decimal numbers. Behind the definitions of a word come all of its
+//!   source but for those with that attribute, if its HOME is not `-`: they are what
+//!   `$crate::name!` finds in definitions of that crate.
 //!
 //! Any other line is wrong, an empty one too, and so is a last line without a line feed. The lines
 //! before a wrong line are answered, and nothing after it is read.

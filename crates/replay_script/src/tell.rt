@@ -52,8 +52,7 @@ pub fn wrong_words(wrong: Wrong) -> &'static str
         Wrong::Utf8 => "it is not UTF-8",
         Wrong::CarriageReturn => "it has a carriage return, which a replacement writes \\r",
         Wrong::Command => {
-            "it is none of `expand`, `edit START END REPLACEMENT`, `source N HOME TEXT` and \
-            `prelude WORD..`"
+            "it is no `expand`, `edit START END REPLACEMENT`, `source N HOME TEXT` or `prelude WORD..`"
         }
         Wrong::Start => "no number and a space come after `edit`",
         Wrong::End => "no number and a space come after START",

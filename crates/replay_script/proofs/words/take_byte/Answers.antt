@@ -1,5 +1,5 @@
 use Rattle.std.proofs.Common.{Bool, List, ℕ, ap, sym, ◌∙◌, ◌∷◌, false}
-use Rattle.replay_script.specs.Words.{left_of}
+use Rattle.replay_script.specs.LineReads.{left_of}
 use Rattle.replay_script.proofs.LineLemmas.{left_meant, left_plain}
 use Rattle.replay_script.proofs.words.take_byte.Goals as goal
 

@@ -1,5 +1,6 @@
 use Rattle.std.proofs.Common.{◌≡◌, drop}
-use Rattle.replay_script.specs.Words.{left_of, unescaped}
+use Rattle.replay_script.specs.LineReads.{left_of}
+use Rattle.replay_script.specs.Words.{unescaped}
 use Rattle.replay_script.proofs.words.unescaped.Given as goal
 
 abbrev pub invariant-loop-byte : goal.invariant-loop-byte
