@@ -1,85 +1,11 @@
-//! Sessions after definitions of other texts: what is expanded anew, and where tokens come from.
+//! Sessions after definitions of other texts, and where tokens come from. What is expanded anew, the
+//! script `preludes.script` of the examples shows.
 use crate::opened::{found, opened};
 use expander::{
     Edition, Expansion, Home, Origin, Prelude, Session, SmallGrammar, Source, SourceRead,
 };
 use std::alloc::Global;
 use std::test::Fail;
-
-// A source, a text, what it prints after the source and how many plain pieces it has; another form
-// of the source, what is printed after that, and how many pieces are then expanded anew.
-struct Row {
-    source: &'static str,
-    text: &'static str,
-    printed: &'static str,
-    pieces: usize,
-    other: &'static str,
-    again: &'static str,
-    changed: usize,
-}
-
-const ROWS: [Row; 6] = [
-    // The same source.
-    Row {
-        source: "macro_rules! m { () => { 1 } }",
-        text: "m!{} n!{} m!{}",
-        printed: "1 n ! { }\n1\n",
-        pieces: 3,
-        other: "macro_rules! m { () => { 1 } }",
-        again: "1 n ! { }\n1\n",
-        changed: 0,
-    },
-    // It moved in its text.
-    Row {
-        source: "macro_rules! m { () => { 1 } }",
-        text: "m!{} n!{} m!{}",
-        printed: "1 n ! { }\n1\n",
-        pieces: 3,
-        other: "x;\nmacro_rules! m { () => { 1 } } y",
-        again: "1 n ! { }\n1\n",
-        changed: 0,
-    },
-    // One of two definitions changed: its users alone are expanded anew.
-    Row {
-        source: "macro_rules! m { () => { 1 } } macro_rules! n { () => { 2 } }",
-        text: "m!{} n!{} m!{} o;",
-        printed: "1 2 1 o ;\n",
-        pieces: 4,
-        other: "macro_rules! m { () => { 3 } } macro_rules! n { () => { 2 } }",
-        again: "3 2 3 o ;\n",
-        changed: 2,
-    },
-    // A definition came.
-    Row {
-        source: "macro_rules! m { () => { 1 } }",
-        text: "m!{} n!{} m!{}",
-        printed: "1 n ! { }\n1\n",
-        pieces: 3,
-        other: "macro_rules! m { () => { 1 } } macro_rules! n { () => { 2 } }",
-        again: "1 2 1\n",
-        changed: 1,
-    },
-    // An own definition is nearer.
-    Row {
-        source: "macro_rules! m { () => { 1 } }",
-        text: "m!{} macro_rules! m { () => { 4 } } m!{}",
-        printed: "1 4\n",
-        pieces: 2,
-        other: "macro_rules! m { () => { 5 } }",
-        again: "5 4\n",
-        changed: 1,
-    },
-    // None is left.
-    Row {
-        source: "macro_rules! m { () => { 1 } }",
-        text: "m!{} n!{}",
-        printed: "1 n ! { }\n",
-        pieces: 2,
-        other: "m",
-        again: "m ! { }\nn ! { }\n",
-        changed: 1,
-    },
-];
 
 /// The source that a short text is.
 pub(crate) fn source_of(alloc: Global, text: &str, home: Option<Home>) -> Result<Source, Fail> {
@@ -112,31 +38,6 @@ fn expanded_after(
     let source = source_of(alloc, text, None)?;
     session.set_prelude(prelude_of(alloc, &source)?);
     found(session)
-}
-
-fn is_told(alloc: Global, row: &Row) -> Result<bool, Fail> {
-    let mut session = opened(alloc, row.text, 128)?;
-    let first = expanded_after(alloc, &mut session, row.source)?;
-    let second = expanded_after(alloc, &mut session, row.other)?;
-    Ok(
-        first.printed() == row.printed
-            && first.expanded() == row.pieces
-            && second.printed() == row.again
-            && second.expanded() == row.changed,
-    )
-}
-
-#[test]
-fn changed_definitions_are_expanded_anew(rt: HostRuntime) -> Result<(), Fail> {
-    for row in &ROWS {
-        assert!(rt;
-            is_told(rt.alloc(), row)?,
-            "{} after {}",
-            row.text,
-            row.other
-        );
-    }
-    Ok(())
 }
 
 // Whether the first token comes from these bytes of source 1, and so is not of the own text.
