@@ -13,3 +13,6 @@ mod Lines
 mod Rows
 mod ConditionLemmas
 mod ConditionRows
+mod LimitLemmas
+mod NoteLemmas
+mod LimitRows

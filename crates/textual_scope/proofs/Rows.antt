@@ -33,7 +33,7 @@ filled argument empty = empty
 filled argument (leaf l rest) = joined (if is_punct "$" l then argument else leaf l empty) (filled argument rest)
 filled argument (group d inner rest) = group d (filled argument inner) (filled argument rest)
 
-abbrev toy : World Definition
+abbrev pub toy : World Definition
 toy = record {
   broken = λ d. is_broken d.body;
   fit = λ d argument. if fits_none d.body then None else Some (filled argument d.body);

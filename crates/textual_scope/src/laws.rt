@@ -1,5 +1,5 @@
 //! Laws of scopes. Calling a law does nothing: its contract is the statement.
-ghost use Rattle.std.specs.Prelude.{◌≡◌, ℕ, ◌<◌, All, Bool, false, List, [], ◌++◌, Option, Some, None, Ok};
+ghost use Rattle.std.specs.Prelude.{◌≡◌, ℕ, ◌<◌, ◌≤◌, All, Bool, false, List, [], ◌++◌, Option, Some, None, Ok};
 ghost use Rattle.tt_data.specs.Forest.{Forest, map_spans, size};
 ghost use Rattle.tt_data.specs.Literals.{LiteralParts};
 ghost use Rattle.tt_data.specs.declared.span.Span.{Span};
@@ -11,6 +11,7 @@ ghost use Rattle.expander_model.specs.OtherPlaces.{definition_with};
 ghost use Rattle.expander_model.specs.Pieces.{pieces};
 ghost use Rattle.textual_scope.specs.Conditions.{Options, definition_under, is_configured_out};
 ghost use Rattle.textual_scope.specs.Keywords.{AddsNoKeyword, HasNoKeyword, NestsNone};
+ghost use Rattle.textual_scope.specs.Limits.{Limits, noted, too_large, unnoted};
 ghost use Rattle.textual_scope.specs.ScopeChanges.{around_with, scoped_with};
 ghost use Rattle.textual_scope.specs.ScopedMeaning.{scoped_meaning};
 ghost use Rattle.textual_scope.specs.Scoping.{Around, Scoped, Search, Standing, and_next, only, scoped, search_list, search_parts, without_locals};
@@ -109,4 +110,21 @@ pub fn conditions_leave_other_pieces_alone()
         (items : Bool) (piece : Forest) →
         is_configured_out options text items piece ≡ false →
         definition_under options text piece ≡ definition_of piece }
+{}
+
+/// With its notes left out, a noted expansion is the expansion.
+pub fn notes_change_nothing()
+    ensures { (rules : ScopeRules) (world : World Definition) (local : Definition → Definition)
+        (scope : List ℕ → Option Definition) (n : ℕ) (around : Around) (f : Forest) →
+        unnoted (noted rules world local scope n around f)
+        ≡ scoped rules world local scope n around f }
+{}
+
+/// What a call makes within limits is within larger ones.
+pub fn larger_limits_refuse_less()
+    ensures { (rules : ScopeRules) (world : World Definition) (local : Definition → Definition)
+        (scope : List ℕ → Option Definition) (less more : Limits) (n : ℕ) (around : Around)
+        (f : Forest) → less.calls ≤ more.calls → less.tokens ≤ more.tokens →
+        too_large rules world local scope less n around f ≡ None →
+        too_large rules world local scope more n around f ≡ None }
 {}

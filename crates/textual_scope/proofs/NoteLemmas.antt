@@ -1,0 +1,157 @@
+-- An expansion with its notes is the expansion.
+use Rattle.std.proofs.Common.{◌≡◌, ℕ, zero, suc, Bool, true, false, List, [], ◌∷◌, ◌++◌, Option, Some, None, refl, ap, ◌∙◌, unwrap_or, option_map, if◌then◌else◌}
+use Rattle.tt_data.specs.Forest.{Forest, size}
+use Rattle.tt_data.specs.Walk.{Step, at_leaf, walk}
+use Rattle.tt_data.specs.declared.span.Span.{Span}
+use Rattle.expander_model.specs.declared.fault.FaultKind.TheVariants.{BrokenDefinition}
+use Rattle.tt_data.specs.declared.leaf.Ident.{Ident}
+use Rattle.expander_model.specs.Calls.{Path, bare, from_crate, other, Marked, none, token, inside, call, marked, unmarked, key_of}
+use Rattle.expander_model.specs.Definitions.{Definition, nearest}
+use Rattle.expander_model.specs.Expansion.{World, CallSite, just, followed_by, grouped, faulted, found, bursting, before_group, whole_call}
+use Rattle.textual_scope.specs.declared.scope_rules.ScopeRules.{ScopeRules}
+use Rattle.textual_scope.specs.Limits.{Noted, definition, result, looked_in, unnoted, noted_world, noting, noted_list, noted}
+use Rattle.textual_scope.specs.Scoping.{Around, argument, Scoped, Search, parts, definition_in, in_group, behind, only, and_next, in_brackets, is_left_out, defined, fitted, at_level, unbroken, looked_up, at_key, at_call, search_trees, search_part, search_parts, search_list, scoped}
+use Rattle.textual_scope.proofs.ResultLemmas.{same_next}
+
+module _ {D : Type 0} where
+  looked_in-append : (xs ys : List (List ℕ × Option (Noted D))) → looked_in (xs ++ ys) ≡ looked_in xs ++ looked_in ys
+  looked_in-append [] ys = refl
+  looked_in-append ((key, Some (result n)) ∷ xs) ys = looked_in-append xs ys
+  looked_in-append ((key, Some (definition d)) ∷ xs) ys = ap (λ fs. (key, Some d) ∷ fs) (looked_in-append xs ys)
+  looked_in-append ((key, None) ∷ xs) ys = ap (λ fs. (key, None) ∷ fs) (looked_in-append xs ys)
+
+  -- one result after another
+  unnoted-next : (a : Scoped (Noted D)) (b : Scoped D) (f : Around → Scoped (Noted D)) (g : Around → Scoped D) (around : Around) → unnoted a ≡ b
+      → ((here : Around) → unnoted (f here) ≡ g here) → unnoted (and_next a f around) ≡ and_next b g around
+  unnoted-next a b f g around e same =
+      let after : Scoped (Noted D) = f (behind a.defines around) in
+      (λ i. record {
+        outcome = record {
+          steps = a.outcome.steps ++ after.outcome.steps;
+          faults = a.outcome.faults ++ after.outcome.faults;
+          finds = looked_in-append a.outcome.finds after.outcome.finds i;
+          bursts = (and_next a f around).outcome.bursts;
+        };
+        defines = after.defines ++ a.defines;
+      })
+      ∙ same_next b (unnoted a) g (λ here. unnoted (f here)) around e (same (behind b.defines around))
+
+  abbrev SameNoted : Search (Noted D) → Search D → Type 0
+  SameNoted one two = (around : Around) (f : Forest) → unnoted (one around f) ≡ two around f
+
+  abbrev SameDeeper : Option (Search (Noted D)) → Option (Search D) → Type 0
+  SameDeeper None None = Unit {0}
+  SameDeeper (Some one) (Some two) = SameNoted one two
+  SameDeeper None (Some two) = ⊥
+  SameDeeper (Some one) None = ⊥
+
+  unnoted-found : (key : List ℕ) (r : Option D) (a : Scoped (Noted D)) (b : Scoped D) → unnoted a ≡ b
+      → unnoted (record a { outcome = found key (option_map definition r) a.outcome }) ≡ record b { outcome = found key r b.outcome }
+  unnoted-found key None a b e = ap (λ (x : Scoped D). record x { outcome = found key None x.outcome }) e
+  unnoted-found key (Some d) a b e = ap (λ (x : Scoped D). record x { outcome = found key (Some d) x.outcome }) e
+
+  told : (b : Bool) (outer : Option Span) (place : Span) (steps : List Step) (ds : List Definition)
+      → (let a : Scoped (Noted D) = record { outcome = if b then faulted BrokenDefinition place (just outer steps) else just outer steps; defines = ds } in unnoted a)
+      ≡ (let a : Scoped D = record { outcome = if b then faulted BrokenDefinition place (just outer steps) else just outer steps; defines = ds } in a)
+  told true outer place steps ds = refl
+  told false outer place steps ds = refl
+
+module _ {D : Type 0} (rules : ScopeRules) (world : World D) (local : Definition → D) (scope : List ℕ → Option D) where
+  abbrev local' : Definition → Noted D
+  local' d = definition (local d)
+
+  abbrev scope' : List ℕ → Option (Noted D)
+  scope' key = option_map definition (scope key)
+
+  abbrev world' : World (Noted D)
+  world' = noted_world world
+
+  unnoted-defined : (around : Around) (d : Definition) → unnoted (defined rules world' local' scope' around d) ≡ defined rules world local scope around d
+  unnoted-defined around d =
+      told (world.broken (local d)) around.outer (unwrap_or around.outer d.name.span) (if is_left_out around.standing then [] else walk d.piece) (d ∷ [])
+
+  unnoted-fitted : (one : Search (Noted D)) (two : Search D) → SameNoted one two → (around : Around) (site : CallSite) (r : Option Forest)
+      → unnoted (fitted rules world' local' scope' one around site r) ≡ fitted rules world local scope two around site r
+  unnoted-fitted one two same around site None = refl
+  unnoted-fitted one two same around site (Some g) = same (record around { outer = Some (unwrap_or around.outer site.at) }) g
+
+  unnoted-level : (d : D) (one : Option (Search (Noted D))) (two : Option (Search D)) → SameDeeper one two → (around : Around) (site : CallSite)
+      → unnoted (at_level rules world' local' scope' (definition d) one around site) ≡ at_level rules world local scope d two around site
+  unnoted-level d None None same around site = refl
+  unnoted-level d (Some one) (Some two) same around site =
+      ap (λ (a : Scoped D). record a { outcome = bursting (world.bursts d site.argument) a.outcome }) (unnoted-fitted one two same around site (world.fit d site.argument))
+  unnoted-level d None (Some two) same around site = absurd same
+  unnoted-level d (Some one) None same around site = absurd same
+
+  unnoted-unbroken : (d : D) (b : Bool) (one : Option (Search (Noted D))) (two : Option (Search D)) → SameDeeper one two → (around : Around) (site : CallSite)
+      → unnoted (unbroken rules world' local' scope' (definition d) b one around site) ≡ unbroken rules world local scope d b two around site
+  unnoted-unbroken d true one two same around site = refl
+  unnoted-unbroken d false one two same around site = unnoted-level d one two same around site
+
+  unnoted-looked_up : (r : Option D) (one : Option (Search (Noted D))) (two : Option (Search D)) → SameDeeper one two → (around : Around) (site : CallSite)
+      → (kept : Scoped (Noted D)) (kept' : Scoped D) → unnoted kept ≡ kept'
+      → unnoted (looked_up rules world' local' scope' (option_map definition r) one around site kept) ≡ looked_up rules world local scope r two around site kept'
+  unnoted-looked_up None one two same around site kept kept' e = e
+  unnoted-looked_up (Some d) one two same around site kept kept' e = unnoted-unbroken d (world.broken d) one two same around site
+
+  unnoted-key : (r : Option Definition) (key : List ℕ) (one : Option (Search (Noted D))) (two : Option (Search D)) → SameDeeper one two → (around : Around) (site : CallSite)
+      → (kept : Scoped (Noted D)) (kept' : Scoped D) → unnoted kept ≡ kept'
+      → unnoted (at_key rules world' local' scope' r key one around site kept) ≡ at_key rules world local scope r key two around site kept'
+  unnoted-key (Some d) key one two same around site kept kept' e = unnoted-looked_up (Some (local d)) one two same around site kept kept' e
+  unnoted-key None key one two same around site kept kept' e =
+      unnoted-found key (scope key) (looked_up rules world' local' scope' (scope' key) one around site kept) (looked_up rules world local scope (scope key) two around site kept')
+      (unnoted-looked_up (scope key) one two same around site kept kept' e)
+
+  unnoted-call : (path : Path) (name : Ident) (one : Option (Search (Noted D))) (two : Option (Search D)) → SameDeeper one two → (around : Around) (site : CallSite)
+      → (kept : Scoped (Noted D)) (kept' : Scoped D) → unnoted kept ≡ kept'
+      → unnoted (at_call rules world' local' scope' one around path name site kept) ≡ at_call rules world local scope two around path name site kept'
+  unnoted-call bare name one two same around site kept kept' e = unnoted-key (nearest around.locals name.sym) name.sym one two same around site kept kept' e
+  unnoted-call (from_crate root p q) name one two same around site kept kept' e = unnoted-key None (key_of (from_crate root p q) name) one two same around site kept kept' e
+  unnoted-call (other p q) name one two same around site kept kept' e = e
+
+  module _ (one : Search (Noted D)) (two : Search D) (same : SameNoted one two) (deep : Option (Search (Noted D))) (deep' : Option (Search D)) (deeper : SameDeeper deep deep') where
+    unnoted-trees : (around : Around) (m : Marked) → unnoted (search_trees rules world' local' scope' one deep around m) ≡ search_trees rules world local scope two deep' around m
+    unnoted-trees around none = refl
+    unnoted-trees around (token l rest) =
+        unnoted-next (only (just around.outer (at_leaf l ∷ []))) (only (just around.outer (at_leaf l ∷ [])))
+        (λ here. search_trees rules world' local' scope' one deep here rest) (λ here. search_trees rules world local scope two deep' here rest)
+        around refl (λ here. unnoted-trees here rest)
+    unnoted-trees around (inside d a rest) =
+        let inner : Around = record around { standing = in_group d around.standing } in
+        unnoted-next (in_brackets around.outer d (one inner (unmarked a))) (in_brackets around.outer d (two inner (unmarked a)))
+        (λ here. search_trees rules world' local' scope' one deep here rest) (λ here. search_trees rules world local scope two deep' here rest)
+        around (ap (in_brackets around.outer d) (same inner (unmarked a))) (λ here. unnoted-trees here rest)
+    unnoted-trees around (call path name bang d a rest) =
+        let site : CallSite = record { at = name.span; whole = whole_call path name bang d (unmarked a); argument = unmarked a } in
+        let inner : Around = record around { standing = argument } in
+        let kept : Scoped (Noted D) = only (followed_by (just around.outer (walk (before_group path name bang))) (grouped around.outer d (one inner (unmarked a)).outcome)) in
+        let kept' : Scoped D = only (followed_by (just around.outer (walk (before_group path name bang))) (grouped around.outer d (two inner (unmarked a)).outcome)) in
+        unnoted-next (at_call rules world' local' scope' deep around path name site kept) (at_call rules world local scope deep' around path name site kept')
+        (λ here. search_trees rules world' local' scope' one deep here rest) (λ here. search_trees rules world local scope two deep' here rest)
+        around
+        (unnoted-call path name deep deep' deeper around site kept kept'
+        (ap (λ (x : Scoped D). only (followed_by (just around.outer (walk (before_group path name bang))) (grouped around.outer d x.outcome))) (same inner (unmarked a))))
+        (λ here. unnoted-trees here rest)
+
+    unnoted-part : (around : Around) (p : Forest) (d : Option Definition)
+        → unnoted (search_part rules world' local' scope' one deep around p d) ≡ search_part rules world local scope two deep' around p d
+    unnoted-part around p (Some d) = unnoted-defined around d
+    unnoted-part around p None = unnoted-trees around (marked p)
+
+    unnoted-parts : (around : Around) (ps : List Forest) → unnoted (search_parts rules world' local' scope' one deep around ps) ≡ search_parts rules world local scope two deep' around ps
+    unnoted-parts around [] = refl
+    unnoted-parts around (p ∷ ps) =
+        unnoted-next (search_part rules world' local' scope' one deep around p (definition_in rules p)) (search_part rules world local scope two deep' around p (definition_in rules p))
+        (λ here. search_parts rules world' local' scope' one deep here ps) (λ here. search_parts rules world local scope two deep' here ps)
+        around (unnoted-part around p (definition_in rules p)) (λ here. unnoted-parts here ps)
+
+  unnoted-list : (deep : Option (Search (Noted D))) (deep' : Option (Search D)) → SameDeeper deep deep' → (n : ℕ)
+      → SameNoted (noted_list rules world local scope deep n) (search_list rules world local scope deep' n)
+  unnoted-list deep deep' deeper zero around f = refl
+  unnoted-list deep deep' deeper (suc n) around f =
+      unnoted-parts (noted_list rules world local scope deep n) (search_list rules world local scope deep' n) (unnoted-list deep deep' deeper n) deep deep' deeper around (parts rules f)
+
+  pub unnoted-noted : (n : ℕ) → SameNoted (noted rules world local scope n) (scoped rules world local scope n)
+  unnoted-noted zero around f = unnoted-list None None tt (suc (size f)) around f
+  unnoted-noted (suc n) around f =
+      unnoted-list (Some (noting (noted rules world local scope n))) (Some (scoped rules world local scope n)) (λ here g. unnoted-noted n here g) (suc (size f)) around f
