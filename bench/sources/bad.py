@@ -1,7 +1,7 @@
 """Runs a built `filgordd` behind sources that are meant to break it, and prints each run whose answer is wrong.
 
     bad.py PROGRAM           the rows, and each request for memory refused in turn
-    bad.py PROGRAM --large   a source of 4,294,967,295 bytes and one of a byte more, of which each may take 9 GB
+    bad.py PROGRAM --large   a source of 4,294,967,295 bytes and one of a byte more, which take 9 and 5 GB
 
 Each row has the files, the words, the text, what is to be printed and reported, and the status. What the library for C
 is to do with bad calls is in bindings/c/check.c and bindings/c/refused.c.
@@ -157,15 +157,27 @@ def refuse(program):
         return not failed
 
 
-def large(program):
-    """The sources come by a pipe: blanks, and a definition at the end."""
+BLANKS = """import sys
+left, block = int(sys.argv[1]), b' ' * 2 ** 20
+while left:
+    left -= sys.stdout.buffer.write(block[:left])
+sys.stdout.buffer.write(sys.argv[2].encode())
+"""
+LARGE = (2 ** 32, (b'', b'input is too long\n', 1)), (2 ** 32 - 1, (b'1\n', b'', 0))
+
+
+def large(program, cases=LARGE):
+    """The sources come by a pipe: blanks, and a definition at the end. They get 16 GB of addresses."""
     done = True
-    for size, wanted in ((2 ** 32 - 1, (b'1\n', b'', 0)), (2 ** 32, (b'', b'input is too long\n', 1))):
-        room = 9 * 10 ** 9
-        source = "head -c %d /dev/zero | tr '\\0' ' '; printf '%s'" % (size - len(M), M.replace('\n', '\\n'))
+    for size, wanted in cases:
+        room, blanks = 16 * 10 ** 9, size - len(M)
         start = time()
-        got = subprocess.run(['bash', '-c', 'exec "$0" expand --with <(%s)' % source, program], input=b'm!{}', capture_output=True,
+        writer = subprocess.Popen([sys.executable, '-c', BLANKS, str(blanks), M], stdout=subprocess.PIPE, stderr=subprocess.DEVNULL)
+        file = writer.stdout.fileno()
+        got = subprocess.run([program, 'expand', '--with', '/dev/fd/%d' % file], input=b'm!{}', capture_output=True, pass_fds=[file],
                              preexec_fn=lambda: resource.setrlimit(resource.RLIMIT_AS, (room, room)))
+        writer.stdout.close()
+        writer.wait()
         is_wanted = (got.stdout, got.returncode) == (wanted[0], wanted[2]) and got.stderr.endswith(wanted[1])
         done = done and is_wanted
         print('a source of %d bytes: %s, status %d, %.1f s%s' % (size, (got.stdout + got.stderr).decode().strip(), got.returncode,
