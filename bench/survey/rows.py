@@ -1,4 +1,4 @@
-"""Expands some texts behind the macros of std, and prints each whose answer is not the right one.
+"""Expands some texts behind the macros of std, and prints each with its answer, and the right one where that differs.
 
     rows.py PROGRAM LIBRARY    LIBRARY is the folder of std's sources
 
@@ -40,8 +40,9 @@ def main():
     for what, front, text, wanted in ROWS:
         got = answer(program, library, front, text)
         right += got == wanted.split()
+        print('    %s: %s\n        prints    %s' % (what, text.replace('\n', ' '), ' '.join(got)[:300]))
         if got != wanted.split():
-            print('    %s: %s\n        prints    %s\n        should be %s' % (what, text, ' '.join(got)[:300], wanted))
+            print('        should be %s' % wanted)
     print('%d of %d rows are right' % (right, len(ROWS)))
 
 
