@@ -1,7 +1,7 @@
 """Runs a built `filgordd` behind sources that are meant to break it, and prints each run whose answer is wrong.
 
     bad.py PROGRAM           the rows, and each request for memory refused in turn
-    bad.py PROGRAM --large   a source of 4,294,967,295 bytes and one of a byte more, which take 9 and 5 GB
+    bad.py PROGRAM --large   a source of 4,294,967,295 bytes and one of a byte more, which take some 9 and 5 GB
 
 Each row has the files, the words, the text, what is to be printed and reported, and the status. What the library for C
 is to do with bad calls is in bindings/c/check.c and bindings/c/refused.c.
