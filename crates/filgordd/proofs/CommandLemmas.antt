@@ -36,10 +36,10 @@ values_are now f id got values is same =
 -- a flag that was got is that of its row
 pub flag_is : (f : Found) (id : Text) (set : Bool) → (one_text f id ≡ None → set ≡ false) → (one_text f id ≡ Some (codes "true") → set ≡ true)
     → (one_text f id ≡ Some (codes "false") → set ≡ false) → IsFlag (one_of id (rows_of f)) set
-flag_is f id set none yes no = record {
-  none = λ h. none (one_text-rows f id ∙ h);
-  no = λ h. no (one_text-rows f id ∙ h);
-  yes = λ h. yes (one_text-rows f id ∙ h);
+flag_is f id set absent on off = record {
+  absent = λ h. absent (one_text-rows f id ∙ h);
+  off = λ h. off (one_text-rows f id ∙ h);
+  on = λ h. on (one_text-rows f id ∙ h);
 }
 
 -- a name and rows that were got apart stand together

@@ -95,9 +95,9 @@ pub record IsFile (word file : Option Text) : Type 0 where
 
 -- a flag is set where its value is the word for it
 pub record IsFlag (word : Option Text) (set : Bool) : Type 0 where
-  pub none : word ≡ None → set ≡ false
-  pub no : word ≡ Some (codes "false") → set ≡ false
-  pub yes : word ≡ Some (codes "true") → set ≡ true
+  pub absent : word ≡ None → set ≡ false
+  pub off : word ≡ Some (codes "false") → set ≡ false
+  pub on : word ≡ Some (codes "true") → set ≡ true
 
 -- what the values of a subcommand's options choose
 pub record ChosenBy (rows : List Row) (options : Options AnyGrammar) : Type 0 where
