@@ -115,6 +115,10 @@ short_items = refl
 calls : (whole "m ! { }" && whole "m ! ( ) ;") ≡ true
 calls = refl
 
+-- what is in angle brackets is no body, also behind an arrow
+no_body_in_angles : whole "fn f < F : Fn ( ) - > A , const N : usize = { 1 }" ≡ false
+no_body_in_angles = refl
+
 -- cut in two by a brace group
 cut_in_two : (whole "use a : : { b }" || (whole "const A : u8 = { 1 }" || whole "impl A < { 1 }")) ≡ false
 cut_in_two = refl

@@ -15,4 +15,5 @@ mod ConditionLemmas
 mod ConditionRows
 mod LimitLemmas
 mod NoteLemmas
+mod RefusalLemmas
 mod LimitRows

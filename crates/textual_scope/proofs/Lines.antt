@@ -32,7 +32,7 @@ at n = record no_span { range = record { start = n; «end» = suc n } }
 
 -- names and numbers are identifiers, another character alone is a punct, and `'a` is the string "a"
 abbrev is_letter : ℕ → Bool
-is_letter c = nat_lt 96 c || (nat_lt 47 c && nat_lt c 58)
+is_letter c = (nat_lt 96 c && nat_lt c 123) || ((nat_lt 64 c && nat_lt c 91) || (nat_lt 47 c && nat_lt c 58))
 
 abbrev word_leaf : ℕ → List ℕ → Leaf
 word_leaf n (c ∷ []) =
@@ -43,16 +43,16 @@ word_leaf n (c ∷ word) =
     else as_leaf.Ident (record { sym = c ∷ word; span = at n; is_raw = is_raw.No })
 word_leaf n [] = as_leaf.Ident (record { sym = []; span = at n; is_raw = is_raw.No })
 
--- brackets; `<` and `>` stand for invisible ones
+-- brackets; `<|` and `|>` stand for invisible ones
 abbrev kind_among : List (String × DelimiterKind) → List ℕ → Option DelimiterKind
 kind_among [] word = None
 kind_among (k ∷ ks) word = if same_text (codes k.0) word then Some k.1 else kind_among ks word
 
 abbrev opening : List ℕ → Option DelimiterKind
-opening = kind_among (("(", Parenthesis) ∷ ("{", Brace) ∷ ("[", Bracket) ∷ ("<", Invisible) ∷ [])
+opening = kind_among (("(", Parenthesis) ∷ ("{", Brace) ∷ ("[", Bracket) ∷ ("<|", Invisible) ∷ [])
 
 abbrev closing : List ℕ → Option DelimiterKind
-closing = kind_among ((")", Parenthesis) ∷ ("}", Brace) ∷ ("]", Bracket) ∷ (">", Invisible) ∷ [])
+closing = kind_among ((")", Parenthesis) ∷ ("}", Brace) ∷ ("]", Bracket) ∷ ("|>", Invisible) ∷ [])
 
 -- an open group: the index of its opening, and the trees before it
 abbrev Open : Type 0
@@ -85,5 +85,5 @@ abbrev pub step_word : Step → List ℕ
 step_word (at_leaf (as_leaf.Ident i)) = i.sym
 step_word (at_leaf (as_leaf.Punct p)) = p.char ∷ []
 step_word (at_leaf (as_leaf.Literal l)) = 39 ∷ l.text
-step_word (opens kind span) = bracket kind "(" "{" "[" "<"
-step_word (closes kind span) = bracket kind ")" "}" "]" ">"
+step_word (opens kind span) = bracket kind "(" "{" "[" "<|"
+step_word (closes kind span) = bracket kind ")" "}" "]" "|>"

@@ -90,10 +90,10 @@ every_visible_group_ends_it : prints Rust "fn f ( ) { ( macro_rules ! m { 1 } m 
     ≡ words "fn f ( ) { ( 1 ) [ ] m ! { } n ! { } }"
 every_visible_group_ends_it = refl
 
-invisible_groups_let_it_out : prints Rust "fn f ( ) { < macro_rules ! m { 1 } > m ! { } }" ≡ words "fn f ( ) { < > 1 }"
+invisible_groups_let_it_out : prints Rust "fn f ( ) { <| macro_rules ! m { 1 } |> m ! { } }" ≡ words "fn f ( ) { <| |> 1 }"
 invisible_groups_let_it_out = refl
 
-nearest_of_what_is_let_out : prints Rust "fn f ( ) { < macro_rules ! m { 1 } macro_rules ! m { 2 } > m ! { } }" ≡ words "fn f ( ) { < > 2 }"
+nearest_of_what_is_let_out : prints Rust "fn f ( ) { <| macro_rules ! m { 1 } macro_rules ! m { 2 } |> m ! { } }" ≡ words "fn f ( ) { <| |> 2 }"
 nearest_of_what_is_let_out = refl
 
 -- ---- what a result defines

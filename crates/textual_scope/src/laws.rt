@@ -128,3 +128,14 @@ pub fn larger_limits_refuse_less()
         too_large rules world local scope less n around f ≡ None →
         too_large rules world local scope more n around f ≡ None }
 {}
+
+/// Whether a call makes too much depends on what was looked up until then, and on nothing else
+/// outside of all lists.
+pub fn refusals_depend_on_lookups_so_far()
+    ensures { (rules : ScopeRules) (world : World Definition) (local : Definition → Definition)
+        (scope others : List ℕ → Option Definition) (limits : Limits) (n : ℕ) (around : Around)
+        (f : Forest) (finds : List (List ℕ × Option Definition)) →
+        too_large rules world local scope limits n around f ≡ Some finds →
+        All (λ find. others find.0 ≡ find.1) finds →
+        too_large rules world local others limits n around f ≡ Some finds }
+{}

@@ -1,0 +1,274 @@
+-- What a limit refuses depends on what was looked up until then alone.
+use Rattle.std.proofs.Common.{◌≡◌, ℕ, zero, suc, ◌-◌, Bool, true, false, List, [], ◌∷◌, ◌++◌, Option, Some, None, refl, sym, ap, subst, ◌∙◌, unwrap_or, option_map, if◌then◌else◌}
+use Rattle.std.specs.Prelude.{All, ◌||◌, nat_eq, nat_lt}
+use Rattle.std.proofs.lemmas.List.Elements.{All-head, All-tail}
+use Rattle.tt_data.specs.Forest.{Forest, size}
+use Rattle.tt_data.specs.Walk.{Step, at_leaf, walk}
+use Rattle.tt_data.specs.declared.span.Span.{Span}
+use Rattle.expander_model.specs.declared.fault.FaultKind.TheVariants.{BrokenDefinition}
+use Rattle.tt_data.specs.declared.leaf.Ident.{Ident}
+use Rattle.expander_model.specs.Calls.{Path, bare, from_crate, other, Marked, none, token, inside, call, marked, unmarked, key_of}
+use Rattle.expander_model.specs.Definitions.{Definition, nearest}
+use Rattle.expander_model.specs.Expansion.{World, CallSite, just, followed_by, grouped, faulted, found, bursting, before_group, whole_call}
+use Rattle.textual_scope.specs.declared.scope_rules.ScopeRules.{ScopeRules}
+use Rattle.textual_scope.specs.Limits.{Limits, Noted, definition, result, noted_world, noting, noted_list, noted, until_passed, too_large}
+use Rattle.textual_scope.specs.Scoping.{Around, argument, Scoped, Search, parts, definition_in, in_group, behind, only, and_next, in_brackets, is_left_out, fitted, at_level, unbroken, looked_up, at_key, at_call, search_trees, search_part, search_parts}
+use Rattle.textual_scope.proofs.ResultLemmas.{same_next}
+
+-- ---- notes, as far as they agree
+
+module _ {D : Type 0} (others : List ℕ → Option D) where
+  abbrev Note : Type 0
+  Note = List ℕ × Option (Noted D)
+
+  -- a look-up of a note finds the same among others; a size agrees
+  abbrev Agrees : Note → Type 0
+  Agrees (key, Some (result n)) = Unit {0}
+  Agrees (key, Some (definition d)) = others key ≡ Some d
+  Agrees (key, None) = others key ≡ None
+
+  abbrev AllAgree : List Note → Type 0
+  AllAgree [] = Unit {0}
+  AllAgree (x ∷ xs) = Agrees x × AllAgree xs
+
+  -- the second notes are the first up to the first look-up that does not agree
+  abbrev Follow : List Note → List Note → Type 0
+  Follow [] b = b ≡ []
+  Follow (x ∷ a) b = Agrees x → (c : List Note) × ((b ≡ x ∷ c) × Follow a c)
+
+  agree_front : (a b : List Note) → AllAgree (a ++ b) → AllAgree a
+  agree_front [] b h = tt
+  agree_front (x ∷ a) b h = (h.0, agree_front a b h.1)
+
+  agree_back : (a b : List Note) → AllAgree (a ++ b) → AllAgree b
+  agree_back [] b h = h
+  agree_back (x ∷ a) b h = agree_back a b h.1
+
+  follow_append : (a b c d : List Note) → Follow a b → (AllAgree a → Follow c d) → Follow (a ++ c) (b ++ d)
+  follow_append [] b c d h more = subst (λ e. Follow c (e ++ d)) (sym h) (more tt)
+  follow_append (x ∷ a) b c d h more = λ agrees.
+      let found : (e : List Note) × ((b ≡ x ∷ e) × Follow a e) = h agrees in
+      (found.0 ++ d, (ap (λ e. e ++ d) found.1.0, follow_append a found.0 c d found.1.1 (λ all. more (agrees, all))))
+
+  -- the second result is the first, if all look-ups of the first agree; and they follow in any case
+  pub record Both (a b : Scoped (Noted D)) : Type 0 where
+    pub follow : Follow a.outcome.finds b.outcome.finds
+    pub same : AllAgree a.outcome.finds → b ≡ a
+
+  -- the same look-ups, whatever else
+  both_with : (a b : Scoped (Noted D)) (of : Scoped (Noted D) → Scoped (Noted D)) → ((x : Scoped (Noted D)) → (of x).outcome.finds ≡ x.outcome.finds) → Both a b → Both (of a) (of b)
+  both_with a b of finds h = record {
+    follow = subst (λ xs. Follow xs (of b).outcome.finds) (sym (finds a)) (subst (λ xs. Follow a.outcome.finds xs) (sym (finds b)) h.follow);
+    same = λ k. ap of (h.same (subst AllAgree (finds a) k));
+  }
+
+  both_next : (a b : Scoped (Noted D)) (f g : Around → Scoped (Noted D)) (around : Around) → Both a b → ((here : Around) → Both (f here) (g here))
+      → Both (and_next a f around) (and_next b g around)
+  both_next a b f g around h more =
+      let after : Scoped (Noted D) = f (behind a.defines around) in
+      record {
+        follow = follow_append a.outcome.finds b.outcome.finds after.outcome.finds (g (behind b.defines around)).outcome.finds h.follow
+            (λ all. subst (λ (x : Scoped (Noted D)). Follow after.outcome.finds (g (behind x.defines around)).outcome.finds) (sym (h.same all)) (more (behind a.defines around)).follow);
+        same = λ k. same_next a b f g around (h.same (agree_front a.outcome.finds after.outcome.finds k))
+            ((more (behind a.defines around)).same (agree_back a.outcome.finds after.outcome.finds k));
+      }
+
+  abbrev Finds : Type 0
+  Finds = List (List ℕ × Option D)
+
+  abbrev Same : (List ℕ × Option D) → Type 0
+  Same find = others find.0 ≡ find.1
+
+  -- a look-up before what follows it
+  look : (x : List ℕ × Option D) (o u : Option Finds) (finds : Finds) → (Same x → (fs : Finds) → o ≡ Some fs → All Same fs → u ≡ Some (x ∷ fs))
+      → option_map (λ fs. x ∷ fs) o ≡ Some finds → All Same finds → u ≡ Some finds
+  look x None u finds h e all = absurd (cc e)
+  look x (Some fs) u finds h e all =
+      let same : x ∷ fs ≡ finds = cc in
+      let agreed : All Same (x ∷ fs) = subst (All Same) (sym same) all in
+      h (All-head Same x fs agreed) fs refl (All-tail Same x fs agreed) ∙ e
+
+  -- a limit that is passed is passed by what follows
+  pub passed_too : (a b : List Note) (calls tokens : ℕ) (finds : Finds) → Follow a b → until_passed calls tokens a ≡ Some finds
+      → All Same finds → until_passed calls tokens b ≡ Some finds
+  passed_too [] b calls tokens finds h e all = absurd (cc e)
+  passed_too ((key, Some (result n)) ∷ a) b calls tokens finds h e all =
+      let next : (c : List Note) × ((b ≡ (key, Some (result n)) ∷ c) × Follow a c) = h tt in
+      ap (until_passed calls tokens) next.1.0
+      ∙ go (nat_eq calls 0 || nat_lt tokens n) next.0 (λ k. passed_too a next.0 (calls - 1) (tokens - n) finds next.1.1 k all) e
+    where
+      go : (t : Bool) (c : List Note) → (until_passed (calls - 1) (tokens - n) a ≡ Some finds → until_passed (calls - 1) (tokens - n) c ≡ Some finds)
+          → (if t then Some [] else until_passed (calls - 1) (tokens - n) a) ≡ Some finds
+          → (if t then Some [] else until_passed (calls - 1) (tokens - n) c) ≡ Some finds
+      go true c more k = k
+      go false c more k = more k
+  passed_too ((key, Some (definition d)) ∷ a) b calls tokens finds h e all =
+      look (key, Some d) (until_passed calls tokens a) (until_passed calls tokens b) finds
+      (λ agrees fs is rest.
+      let next : (c : List Note) × ((b ≡ (key, Some (definition d)) ∷ c) × Follow a c) = h agrees in
+      ap (until_passed calls tokens) next.1.0 ∙ ap (option_map (λ gs. (key, Some d) ∷ gs)) (passed_too a next.0 calls tokens fs next.1.1 is rest)) e all
+  passed_too ((key, None) ∷ a) b calls tokens finds h e all =
+      look (key, None) (until_passed calls tokens a) (until_passed calls tokens b) finds
+      (λ agrees fs is rest.
+      let next : (c : List Note) × ((b ≡ (key, None) ∷ c) × Follow a c) = h agrees in
+      ap (until_passed calls tokens) next.1.0 ∙ ap (option_map (λ gs. (key, None) ∷ gs)) (passed_too a next.0 calls tokens fs next.1.1 is rest)) e all
+
+-- ---- two scopes
+
+module _ {D : Type 0} (rules : ScopeRules) (world : World D) (local : Definition → D) (scope others : List ℕ → Option D) where
+  abbrev local' : Definition → Noted D
+  local' d = definition (local d)
+
+  abbrev one_scope : List ℕ → Option (Noted D)
+  one_scope key = option_map definition (scope key)
+
+  abbrev two_scope : List ℕ → Option (Noted D)
+  two_scope key = option_map definition (others key)
+
+  abbrev BothIn : Search (Noted D) → Search (Noted D) → Type 0
+  BothIn one two = (around : Around) (f : Forest) → Both others (one around f) (two around f)
+
+  abbrev BothDeeper : Option (Search (Noted D)) → Option (Search (Noted D)) → Type 0
+  BothDeeper None None = Unit {0}
+  BothDeeper (Some one) (Some two) = BothIn one two
+  BothDeeper None (Some two) = ⊥
+  BothDeeper (Some one) None = ⊥
+
+  told : (b : Bool) (outer : Option Span) (place : Span) (steps : List Step) (ds : List Definition)
+      → (let a : Scoped (Noted D) = record { outcome = if b then faulted BrokenDefinition place (just outer steps) else just outer steps; defines = ds } in Both others a a)
+  told true outer place steps ds = record { follow = refl; same = λ k. refl }
+  told false outer place steps ds = record { follow = refl; same = λ k. refl }
+
+  both_fitted : (one two : Search (Noted D)) → BothIn one two → (around : Around) (site : CallSite) (r : Option Forest)
+      → Both others (fitted rules (noted_world world) local' one_scope one around site r) (fitted rules (noted_world world) local' two_scope two around site r)
+  both_fitted one two same around site None = record { follow = refl; same = λ k. refl }
+  both_fitted one two same around site (Some g) = same (record around { outer = Some (unwrap_or around.outer site.at) }) g
+
+  both_level : (d : D) (one two : Option (Search (Noted D))) → BothDeeper one two → (around : Around) (site : CallSite)
+      → Both others (at_level rules (noted_world world) local' one_scope (definition d) one around site) (at_level rules (noted_world world) local' two_scope (definition d) two around site)
+  both_level d None None same around site = record { follow = refl; same = λ k. refl }
+  both_level d (Some one) (Some two) same around site =
+      both_with others (fitted rules (noted_world world) local' one_scope one around site (world.fit d site.argument)) (fitted rules (noted_world world) local' two_scope two around site (world.fit d site.argument))
+      (λ a. record a { outcome = bursting (world.bursts d site.argument) a.outcome }) (λ x. refl) (both_fitted one two same around site (world.fit d site.argument))
+  both_level d None (Some two) same around site = absurd same
+  both_level d (Some one) None same around site = absurd same
+
+  both_unbroken : (d : D) (b : Bool) (one two : Option (Search (Noted D))) → BothDeeper one two → (around : Around) (site : CallSite)
+      → Both others (unbroken rules (noted_world world) local' one_scope (definition d) b one around site) (unbroken rules (noted_world world) local' two_scope (definition d) b two around site)
+  both_unbroken d true one two same around site = record { follow = refl; same = λ k. refl }
+  both_unbroken d false one two same around site = both_level d one two same around site
+
+  both_looked_up : (r : Option D) (one two : Option (Search (Noted D))) → BothDeeper one two → (around : Around) (site : CallSite) (kept kept' : Scoped (Noted D)) → Both others kept kept'
+      → Both others (looked_up rules (noted_world world) local' one_scope (option_map definition r) one around site kept) (looked_up rules (noted_world world) local' two_scope (option_map definition r) two around site kept')
+  both_looked_up None one two same around site kept kept' h = h
+  both_looked_up (Some d) one two same around site kept kept' h = both_unbroken d (world.broken d) one two same around site
+
+  -- a look-up outside, and what comes of it
+  both_found : (key : List ℕ) (r s : Option D) (one two : Option (Search (Noted D))) → BothDeeper one two → (around : Around) (site : CallSite) (kept kept' : Scoped (Noted D)) → Both others kept kept'
+      → others key ≡ s
+      → Both others
+      (let a : Scoped (Noted D) = looked_up rules (noted_world world) local' one_scope (option_map definition r) one around site kept in record a { outcome = found key (option_map definition r) a.outcome })
+      (let a : Scoped (Noted D) = looked_up rules (noted_world world) local' two_scope (option_map definition s) two around site kept' in record a { outcome = found key (option_map definition s) a.outcome })
+  both_found key r s one two same around site kept kept' h is = go r (both_looked_up r one two same around site kept kept' h)
+    where
+      go : (r : Option D)
+          → Both others (looked_up rules (noted_world world) local' one_scope (option_map definition r) one around site kept) (looked_up rules (noted_world world) local' two_scope (option_map definition r) two around site kept')
+          → Both others
+          (let a : Scoped (Noted D) = looked_up rules (noted_world world) local' one_scope (option_map definition r) one around site kept in record a { outcome = found key (option_map definition r) a.outcome })
+          (let a : Scoped (Noted D) = looked_up rules (noted_world world) local' two_scope (option_map definition s) two around site kept' in record a { outcome = found key (option_map definition s) a.outcome })
+      go None both =
+          let of : Option D → Scoped (Noted D) = λ t.
+          let a : Scoped (Noted D) = looked_up rules (noted_world world) local' two_scope (option_map definition t) two around site kept' in
+          record a { outcome = found key (option_map definition t) a.outcome } in
+          record {
+            follow = λ agrees.
+                let t : None ≡ s = sym agrees ∙ is in
+                ((looked_up rules (noted_world world) local' two_scope None two around site kept').outcome.finds, (ap (λ x. (of x).outcome.finds) (sym t), both.follow));
+            same = λ k. ap of (sym (sym k.0 ∙ is)) ∙ ap (λ (a : Scoped (Noted D)). record a { outcome = found key None a.outcome }) (both.same k.1);
+          }
+      go (Some d) both =
+          let of : Option D → Scoped (Noted D) = λ t.
+          let a : Scoped (Noted D) = looked_up rules (noted_world world) local' two_scope (option_map definition t) two around site kept' in
+          record a { outcome = found key (option_map definition t) a.outcome } in
+          record {
+            follow = λ agrees.
+                let t : Some d ≡ s = sym agrees ∙ is in
+                ((looked_up rules (noted_world world) local' two_scope (Some (definition d)) two around site kept').outcome.finds, (ap (λ x. (of x).outcome.finds) (sym t), both.follow));
+            same = λ k. ap of (sym (sym k.0 ∙ is)) ∙ ap (λ (a : Scoped (Noted D)). record a { outcome = found key (Some (definition d)) a.outcome }) (both.same k.1);
+          }
+
+  both_key : (r : Option Definition) (key : List ℕ) (one two : Option (Search (Noted D))) → BothDeeper one two → (around : Around) (site : CallSite) (kept kept' : Scoped (Noted D)) → Both others kept kept'
+      → Both others (at_key rules (noted_world world) local' one_scope r key one around site kept) (at_key rules (noted_world world) local' two_scope r key two around site kept')
+  both_key (Some d) key one two same around site kept kept' h = both_looked_up (Some (local d)) one two same around site kept kept' h
+  both_key None key one two same around site kept kept' h = both_found key (scope key) (others key) one two same around site kept kept' h refl
+
+  both_call : (path : Path) (name : Ident) (one two : Option (Search (Noted D))) → BothDeeper one two → (around : Around) (site : CallSite) (kept kept' : Scoped (Noted D)) → Both others kept kept'
+      → Both others (at_call rules (noted_world world) local' one_scope one around path name site kept) (at_call rules (noted_world world) local' two_scope two around path name site kept')
+  both_call bare name one two same around site kept kept' h = both_key (nearest around.locals name.sym) name.sym one two same around site kept kept' h
+  both_call (from_crate root p q) name one two same around site kept kept' h = both_key None (key_of (from_crate root p q) name) one two same around site kept kept' h
+  both_call (other p q) name one two same around site kept kept' h = h
+
+  module _ (one two : Search (Noted D)) (same : BothIn one two) (deep deep' : Option (Search (Noted D))) (deeper : BothDeeper deep deep') where
+    both_trees : (around : Around) (m : Marked)
+        → Both others (search_trees rules (noted_world world) local' one_scope one deep around m) (search_trees rules (noted_world world) local' two_scope two deep' around m)
+    both_trees around none = record { follow = refl; same = λ k. refl }
+    both_trees around (token l rest) =
+        let a : Scoped (Noted D) = only (just around.outer (at_leaf l ∷ [])) in
+        both_next others a a (λ here. search_trees rules (noted_world world) local' one_scope one deep here rest) (λ here. search_trees rules (noted_world world) local' two_scope two deep' here rest)
+        around (record { follow = refl; same = λ k. refl }) (λ here. both_trees here rest)
+    both_trees around (inside d a rest) =
+        let inner : Around = record around { standing = in_group d around.standing } in
+        both_next others (in_brackets around.outer d (one inner (unmarked a))) (in_brackets around.outer d (two inner (unmarked a)))
+        (λ here. search_trees rules (noted_world world) local' one_scope one deep here rest) (λ here. search_trees rules (noted_world world) local' two_scope two deep' here rest)
+        around (both_with others (one inner (unmarked a)) (two inner (unmarked a)) (in_brackets around.outer d) (λ x. refl) (same inner (unmarked a))) (λ here. both_trees here rest)
+    both_trees around (call path name bang d a rest) =
+        let site : CallSite = record { at = name.span; whole = whole_call path name bang d (unmarked a); argument = unmarked a } in
+        let inner : Around = record around { standing = argument } in
+        let of : Scoped (Noted D) → Scoped (Noted D) = λ x. only (followed_by (just around.outer (walk (before_group path name bang))) (grouped around.outer d x.outcome)) in
+        both_next others (at_call rules (noted_world world) local' one_scope deep around path name site (of (one inner (unmarked a)))) (at_call rules (noted_world world) local' two_scope deep' around path name site (of (two inner (unmarked a))))
+        (λ here. search_trees rules (noted_world world) local' one_scope one deep here rest) (λ here. search_trees rules (noted_world world) local' two_scope two deep' here rest)
+        around
+        (both_call path name deep deep' deeper around site (of (one inner (unmarked a))) (of (two inner (unmarked a)))
+        (both_with others (one inner (unmarked a)) (two inner (unmarked a)) of (λ x. refl) (same inner (unmarked a))))
+        (λ here. both_trees here rest)
+
+    both_part : (around : Around) (p : Forest) (d : Option Definition)
+        → Both others (search_part rules (noted_world world) local' one_scope one deep around p d) (search_part rules (noted_world world) local' two_scope two deep' around p d)
+    both_part around p (Some d) = told (world.broken (local d)) around.outer (unwrap_or around.outer d.name.span) (if is_left_out around.standing then [] else walk d.piece) (d ∷ [])
+    both_part around p None = both_trees around (marked p)
+
+    both_parts : (around : Around) (ps : List Forest)
+        → Both others (search_parts rules (noted_world world) local' one_scope one deep around ps) (search_parts rules (noted_world world) local' two_scope two deep' around ps)
+    both_parts around [] = record { follow = refl; same = λ k. refl }
+    both_parts around (p ∷ ps) =
+        both_next others (search_part rules (noted_world world) local' one_scope one deep around p (definition_in rules p)) (search_part rules (noted_world world) local' two_scope two deep' around p (definition_in rules p))
+        (λ here. search_parts rules (noted_world world) local' one_scope one deep here ps) (λ here. search_parts rules (noted_world world) local' two_scope two deep' here ps)
+        around (both_part around p (definition_in rules p)) (λ here. both_parts here ps)
+
+  both_list : (deep deep' : Option (Search (Noted D))) → BothDeeper deep deep' → (n : ℕ)
+      → BothIn (noted_list rules world local scope deep n) (noted_list rules world local others deep' n)
+  both_list deep deep' deeper zero around f = record { follow = refl; same = λ k. refl }
+  both_list deep deep' deeper (suc n) around f =
+      both_parts (noted_list rules world local scope deep n) (noted_list rules world local others deep' n) (both_list deep deep' deeper n) deep deep' deeper around (parts rules f)
+
+  both_noting : (one two : Search (Noted D)) → BothIn one two → BothIn (noting one) (noting two)
+  both_noting one two same around f =
+      let h : Both others (one around f) (two around f) = same around f in
+      record {
+        follow = λ agrees. ((two around f).outcome.finds, (refl, h.follow));
+        same = λ k. ap (λ (a : Scoped (Noted D)). record a { outcome = found [] (Some (result (size f))) a.outcome }) (h.same k.1);
+      }
+
+  both_noted : (n : ℕ) → BothIn (noted rules world local scope n) (noted rules world local others n)
+  both_noted zero around f = both_list None None tt (suc (size f)) around f
+  both_noted (suc n) around f =
+      both_list (Some (noting (noted rules world local scope n))) (Some (noting (noted rules world local others n)))
+      (both_noting (noted rules world local scope n) (noted rules world local others n) (λ here g. both_noted n here g)) (suc (size f)) around f
+
+  -- the law
+  pub refused_too : (limits : Limits) (n : ℕ) (around : Around) (f : Forest) (finds : List (List ℕ × Option D)) → too_large rules world local scope limits n around f ≡ Some finds
+      → All (λ find. others find.0 ≡ find.1) finds → too_large rules world local others limits n around f ≡ Some finds
+  refused_too limits n around f finds e all =
+      passed_too others (noting (noted rules world local scope n) around f).outcome.finds (noting (noted rules world local others n) around f).outcome.finds
+      limits.calls limits.tokens finds
+      (both_noting (noted rules world local scope n) (noted rules world local others n) (both_noted n) around f).follow e all
