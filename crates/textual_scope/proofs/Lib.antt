@@ -12,6 +12,7 @@ pub mod LeftLemmas
 mod Lines
 mod Rows
 mod ConditionLemmas
+mod TextRows
 mod ConditionRows
 mod LimitLemmas
 mod NoteLemmas

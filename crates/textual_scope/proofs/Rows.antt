@@ -115,6 +115,11 @@ made_at_the_top = refl
 seen_by_an_argument : prints Rust "macro_rules ! e { { macro_rules ! i { 1 } $ } } e ! ( { i ! { } } ) ;" ≡ words "{ { 1 } } ;"
 seen_by_an_argument = refl
 
+-- a definition that is passed in takes the attribute before it along
+seen_behind_an_attribute : prints Rust "macro_rules ! a { # [ x ] $ m ! { } } fn f ( ) { a ! { macro_rules ! m { 1 } } m ! { } }"
+    ≡ words "fn f ( ) { 1 1 }"
+seen_behind_an_attribute = refl
+
 -- no definition is put together of a result and what follows it
 not_across_a_result : prints Rust "macro_rules ! d { macro_rules } fn f ( ) { d ! { } ! e { 1 } e ! { } }"
     ≡ words "fn f ( ) { macro_rules ! e { 1 } e ! { } }"
