@@ -54,13 +54,12 @@ def main(program, files):
             lines += 1
             if len(line) > WIDTH:
                 wide += 1
-                # one token that is that long by itself, or one with what has to touch it
                 held += max((len(word) for _, word, _, _ in lex_or_none(line)), default=WIDTH) > WIDTH - 40
     whole = b''.join(texts)
     size = len(whole) / 1e6
     took = min(seconds(program, 5, whole) for _ in range(3)) - min(seconds(program, 0, whole) for _ in range(3))
     print(f'{len(texts)} texts, {size:.2f} MB: {len(differ)} differ, {len(stay)} stay as printed')
-    print(f'{lines} lines, {wide} over {WIDTH} columns ({100 * wide / max(lines, 1):.2f} %), {held} of them by one long token')
+    print(f'{lines} lines, {wide} over {WIDTH} columns ({100 * wide / max(lines, 1):.2f} %), {held} of them with a token of more than {WIDTH - 40}')
     print(f'{1000 * took / 5 / size:.1f} ms a MB')
     for file in (differ + stay)[:20]:
         print(f'  {file}')
