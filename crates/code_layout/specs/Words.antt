@@ -9,7 +9,8 @@ abbrev pub is_white : TokenKind → Bool
 is_white Whitespace = true
 is_white _ = false
 
--- the signs that `=` follows in an operator: `==` `!=` `<=` `>=` `+=` `-=` `*=` `/=` `%=` `^=` `&=` `|=` `..=`
+-- the signs that `=` follows in an operator: `==` `!=` `<=` `>=` `+=` `-=` `*=` `/=` `%=` `^=`
+-- `&=` `|=` `..=`
 abbrev pub takes_equals : TokenKind → Bool
 takes_equals Eq = true
 takes_equals Bang = true

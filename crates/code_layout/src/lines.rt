@@ -52,7 +52,8 @@ fn column_after(column: usize, text: &str) -> usize {
     column
 }
 
-// Whether so many columns are too many for a line from this column on, and fit in one of this level.
+// Whether so many columns are too many for a line from this column on, but not for one of this
+// level.
 fn is_better_below(column: usize, columns: usize, level: usize) -> bool {
     let indented = level.min(LEVELS) * STEP;
     column.saturating_add(columns) > WIDTH && indented.saturating_add(columns) <= WIDTH

@@ -103,8 +103,8 @@ fn columns(space: Space, text: &str) -> usize {
     }
 }
 
-// Ends the group that a piece closes, and gives whether its arguments may stand one a line: those of
-// more than one token, but no attribute.
+// Ends the group that a piece closes, and gives whether its arguments may stand one a line: those
+// of more than one token, but no attribute.
 fn end_group(maker: &mut Maker<'_>, sort: Sort) -> bool {
     let at = maker.pieces.len();
     let Some(open) = maker.opened.pop() else {

@@ -17,7 +17,7 @@ fn declares(word: &str) -> bool {
     )
 }
 
-// Whether these pieces, from an opening brace on, are as fields: side by side, with a name before them.
+// Whether these pieces, from an opening brace on, are few and short, as fields are.
 fn is_short(pieces: &[Piece<'_>]) -> bool {
     let (Some(first), Some(last)) = (pieces.first(), pieces.last()) else {
         return false;

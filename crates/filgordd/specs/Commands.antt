@@ -34,7 +34,10 @@ with_rule = record (new_rule (codes "with")) {
 
 -- a layout is asked for: an option with no value of its own
 abbrev pub layout_rule : Rule
-layout_rule = record (new_rule (codes "layout")) { long = Some (codes "layout"); action = Some SetTrue }
+layout_rule = record (new_rule (codes "layout")) {
+  long = Some (codes "layout");
+  action = Some SetTrue;
+}
 
 -- the file, which has no name on the command line
 abbrev pub file_rule : Rule
@@ -109,8 +112,8 @@ pub record ChosenBy (rows : List Row) (options : Options AnyGrammar) : Type 0 wh
   pub has_depth : first_of (codes "depth") rows ≡ Some depth
   pub chosen : Chosen grammar edition depth options
 
--- what they ask for: a job with these options, laid out or not, and, each as its word names it, a folder of
--- libraries, other files in order, and a text
+-- what they ask for: a job with these options, laid out or not, and, each as its word names it, a
+-- folder of libraries, other files in order, and a text
 pub record AsksBy (rows : List Row) (job : Job) : Type 0 where
   pub options : ChosenBy rows job.options
   pub has_layout : IsFlag (one_of (codes "layout") rows) job.layout
