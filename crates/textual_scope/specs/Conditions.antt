@@ -74,6 +74,7 @@ module _ (options : Options) (text : LiteralParts → Option (List ℕ)) where
       (or_else (option_map (list_any (λ b. b)) (listed_values (value_within n) "any" p))
       (listed_values (value_within n) "not" p >>= negated)))
 
+  -- the value of a predicate: a list in it has fewer tokens, so its size is enough
   abbrev pub predicate_value : Forest → Option Bool
   predicate_value p = value_within (suc (size p)) p
 
@@ -115,6 +116,7 @@ ends_in_body n arrow (leaf l rest) = ends_in_body (opened_after n arrow l) (is_p
 ends_in_body n arrow (group d inner empty) = nat_eq n 0 && same_kind d.kind Brace
 ends_in_body n arrow (group d inner rest) = ends_in_body n false rest
 
+-- `;` is the last tree
 abbrev pub ends_in_semicolon : Forest → Bool
 ends_in_semicolon empty = false
 ends_in_semicolon (leaf l empty) = is_punct ";" l

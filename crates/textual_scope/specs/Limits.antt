@@ -7,6 +7,7 @@ use Rattle.expander_model.specs.Expansion.{World, found}
 use Rattle.textual_scope.specs.declared.scope_rules.ScopeRules.{ScopeRules}
 use Rattle.textual_scope.specs.Scoping.{Around, Scoped, Search, search_list}
 
+-- at most so many calls, and so many tokens
 pub record Limits : Type 0 where
   pub calls : ℕ
   pub tokens : ℕ
@@ -16,6 +17,7 @@ pub data Noted (D : Type 0) : Type 0 where
   definition : D → Noted D
   result : ℕ → Noted D
 
+-- what definitions mean, where sizes are among them: a size is no macro
 abbrev pub noted_broken : {D : Type 0} → World D → Noted D → Bool
 noted_broken world (definition d) = world.broken d
 noted_broken world (result n) = false
@@ -28,7 +30,7 @@ abbrev pub noted_bursts : {D : Type 0} → World D → Noted D → Forest → Bo
 noted_bursts world (definition d) argument = world.bursts d argument
 noted_bursts world (result n) argument = false
 
--- the same definitions, in a world that has notes too
+-- that world
 abbrev pub noted_world : {D : Type 0} → World D → World (Noted D)
 noted_world world = record {
   broken = noted_broken world;
@@ -75,6 +77,7 @@ until_passed calls tokens ((key, None) ∷ notes) =
 
 module _ {D : Type 0} (rules : ScopeRules) (world : World D) (local : Definition → D)
     (scope : List ℕ → Option D) where
+  -- a list, searched in that world
   abbrev pub noted_list : Option (Search (Noted D)) → ℕ → Search (Noted D)
   noted_list =
       search_list rules (noted_world world) (λ d. definition (local d))

@@ -29,6 +29,7 @@ module _ (rules : ScopeRules) (layers : Layers) (depth : ℕ) where
       let d : Option Definition = definition_of p in
       scoped_member before p d ∷ scoped_members (with_definition d before) ps
 
+  -- the meaning of what was read
   abbrev pub scoped_over : List Definition → Result Forest ReadFault → Result ReadMeaning ReadFault
   scoped_over initial (Err fault) = Err fault
   scoped_over initial (Ok f) = Ok (meaning_of layers (scoped_members initial (pieces f)))

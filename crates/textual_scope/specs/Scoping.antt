@@ -108,6 +108,7 @@ module _ {D : Type 0} (rules : ScopeRules) (world : World D) (local : Definition
       let a : Scoped D = fitted search around site (world.fit d site.argument) in
       record a { outcome = bursting (world.bursts d site.argument) a.outcome }
 
+  -- a call of a definition that is invalid, or is not
   abbrev pub unbroken : D → Bool → Option (Search D) → Around → CallSite → Scoped D
   unbroken d true deeper around site = only (stays BrokenDefinition around.outer site)
   unbroken d false deeper around site = at_level d deeper around site
