@@ -357,7 +357,7 @@ fn answer_to_many(
 #[test]
 fn nested_rules_end(rt: HostRuntime) -> Result<(), Fail> {
     for (entry, unit) in &NESTED {
-        let got = answer_to_many(rt.alloc(), *entry, unit, 3000, "x")?;
+        let got = answer_to_many(rt.alloc(), *entry, unit, 5000, "x")?;
         assert!(rt; got == answer(None), "{unit}: {got:?}");
     }
     Ok(())

@@ -1,6 +1,6 @@
 -- A token does not fit where the class of the first tree is not one of its classes.
-use Rattle.std.proofs.Common.{◌≡◌, ℕ, suc, zero, ◌+◌, ◌*◌, ◌%◌, ◌≤◌, ◌<◌, min, Bool, true, false, not, ◌&&◌, ◌||◌, List, [], ◌∷◌, length, get_or, refl, sym, ap, ◌∙◌, subst, arith, Option, Some, None}
-use Rattle.std.specs.Prelude.{nat_lt, nat_eq, option_and_then}
+use Rattle.std.proofs.Common.{◌≡◌, ℕ, suc, zero, ◌+◌, ◌*◌, ◌%◌, ◌≤◌, min, Bool, true, false, not, ◌&&◌, ◌||◌, List, [], ◌∷◌, length, get_or, refl, sym, ap, subst, arith, Option, Some, None}
+use Rattle.std.specs.Prelude.{nat_eq}
 use Rattle.std.specs.Int.{bit_at}
 use Rattle.std.proofs.lemmas.Bool.{and_parts, ltb-true, eqb-true}
 use Rattle.std.proofs.lemmas.Slice.Eq.{bytes_eq-Decides}
@@ -27,7 +27,7 @@ use Rattle.rust_grammar.specs.Table.{set_texts, word_text, token_of}
 use Rattle.rust_grammar.specs.Tokens.{token_at, is_const_bracket, is_lone_const}
 use Rattle.rust_grammar.specs.declared.node.Token.TheVariants as as_token
 use Rattle.rust_grammar.specs.declared.node.Token as coded
-use Rattle.rust_grammar.specs.declared.table.TheConstants.{IDENTS, SIGNS}
+use Rattle.rust_grammar.specs.declared.table.TheConstants.{IDENTS}
 
 -- what a failed test gives
 blocked : (b : Bool) (o : Option Forest) → (b ≡ true → ⊥) → (b >> o) ≡ None

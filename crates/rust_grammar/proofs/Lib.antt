@@ -3,4 +3,6 @@ mod StepLemmas
 mod ClassLemmas
 mod StartLemmas
 mod OutcomeLemmas
+mod FrameLemmas
+mod TurnLemmas
 mod Rows

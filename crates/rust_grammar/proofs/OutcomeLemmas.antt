@@ -133,10 +133,10 @@ shorter ed n a f g e = passed-size (least a) f g (expression-takes ed (rules_to 
 
 -- ---- rounds
 
-abbrev Shrinks : Taking → Type 0
+abbrev pub Shrinks : Taking → Type 0
 Shrinks p = (f g : Forest) → p f ≡ Fits g → 1 + size g ≤ size f
 
-shrinks : (ed : Edition) (n : ℕ) (a : Expression) → nat_lt 0 (least a) ≡ true → Shrinks (outcome ed n a)
+pub shrinks : (ed : Edition) (n : ℕ) (a : Expression) → nat_lt 0 (least a) ≡ true → Shrinks (outcome ed n a)
 shrinks ed n a some f g e = (let s = shorter ed n a f g e in let one = ltb-true 0 (least a) some in omega (arith, s, one))
 
 round_same : (p q : Taking) (o : Outcome) (f : Forest) → ((g : Forest) → o ≡ Fits g → p g ≡ q g) → next_round p o f ≡ next_round q o f
@@ -152,7 +152,7 @@ enough p less (suc m) (suc k) f fits others =
     round_same (rounds m p) (rounds k p) (p f) f
     (λ g e. enough p less m k g (let s = less f g e in omega (arith, s, fits)) (let s = less f g e in omega (arith, s, others)))
 
-many_on : (p : Taking) → Shrinks p → (f g : Forest) → p f ≡ Fits g → rounds (suc (size f)) p f ≡ rounds (suc (size g)) p g
+pub many_on : (p : Taking) → Shrinks p → (f g : Forest) → p f ≡ Fits g → rounds (suc (size f)) p f ≡ rounds (suc (size g)) p g
 many_on p less f g e =
     let s = less f g e in
     ap (λ o. next_round (rounds (size f) p) o f) e ∙ enough p less (size f) (suc (size g)) g (omega (arith, s)) (omega arith)

@@ -1,5 +1,5 @@
 -- A node whose classes lack that of the first tree misses.
-use Rattle.std.proofs.Common.{◌≡◌, ℕ, suc, zero, ◌+◌, ◌-◌, ◌*◌, ◌/◌, ◌^◌, ◌%◌, ◌≤◌, ◌<◌, min, Bool, true, false, ◌&&◌, List, [], ◌∷◌, length, get_or, refl, sym, ap, ◌∙◌, subst, arith, Option, Some, None}
+use Rattle.std.proofs.Common.{◌≡◌, ℕ, suc, zero, ◌+◌, ◌-◌, ◌*◌, ◌/◌, ◌^◌, ◌%◌, ◌≤◌, ◌<◌, min, Bool, true, false, ◌&&◌, List, [], ◌∷◌, length, get_or, refl, sym, ap, ◌∙◌, subst, arith, Some}
 use Rattle.std.specs.Prelude.{nat_lt, nat_le, bit_and, slice_get}
 use Rattle.std.specs.Int.{bit_at}
 use Rattle.std.proofs.lemmas.Bool.{and_parts, ltb-true, ltb-false, leb-true}
@@ -11,16 +11,13 @@ use Rattle.tt_data.specs.declared.delimiter.DelimiterKind.{DelimiterKind}
 use Rattle.tt_data.specs.declared.delimiter.DelimiterKind.TheVariants.{Parenthesis, Brace, Bracket, Invisible}
 use Rattle.tt_data.specs.declared.edition.Edition.{Edition}
 use Rattle.tt_data.specs.declared.leaf.Leaf.TheVariants as as_leaf
-use Rattle.rust_grammar.specs.Classes.{ident_class, sign_class, group_class, class_of}
+use Rattle.rust_grammar.specs.Classes.{ident_class, group_class, class_of}
 use Rattle.rust_grammar.specs.Starts.{starts_at, levels_at, has_token}
-use Rattle.rust_grammar.specs.Expressions.{found, nothing_if, or_nothing, rounds}
-use Rattle.rust_grammar.specs.Names.{Name}
-use Rattle.rust_grammar.specs.Table.{node_at, root_at, name_at, is_sound, comes_at, token_of, set_texts, word_text}
-use Rattle.rust_grammar.specs.Tokens.{token_at}
+use Rattle.rust_grammar.specs.Expressions.{found, nothing_if}
+use Rattle.rust_grammar.specs.Table.{node_at, root_at, is_sound, comes_at, set_texts, word_text}
 use Rattle.rust_grammar.specs.declared.node.Node.{Node}
 use Rattle.rust_grammar.specs.declared.node.Node.TheVariants as node
-use Rattle.rust_grammar.specs.declared.outcome.Outcome.{Outcome}
-use Rattle.rust_grammar.specs.declared.outcome.Outcome.TheVariants.{Fits, Misses, Faults}
+use Rattle.rust_grammar.specs.declared.outcome.Outcome.TheVariants.{Fits, Misses}
 use Rattle.rust_grammar.specs.declared.table.TheConstants.{NODES, IDENTS, SIGNS, STARTS}
 use Rattle.rust_grammar.proofs.ClassLemmas.{token-out}
 use Rattle.rust_grammar.proofs.StepLemmas.{two_parts, one_part, token_comes, since_comes, then_fits, then_misses, or_misses, many_comes, maybe_comes, unless_comes, rule_on, rounds_end}

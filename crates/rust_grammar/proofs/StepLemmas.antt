@@ -40,7 +40,7 @@ module _ (ed : Edition) (levels place : ℕ) (fits : place < 1564) where
   pub since_comes : (first : Edition) (f : Forest) → node.Since first ≡ node_at place → nothing_if (nat_le (year_of first) (year_of ed)) f ≡ comes_at ed levels place f
   since_comes first f e = sym (step (node.Since first) f e)
 
-  then_comes : (k : ℕ) (f : Forest) (o : Outcome) → node.Then k ≡ node_at place → o ≡ comes_at ed levels (place + 1) f →
+  pub then_comes : (k : ℕ) (f : Forest) (o : Outcome) → node.Then k ≡ node_at place → o ≡ comes_at ed levels (place + 1) f →
       and_then (comes_at ed levels (place + k)) o ≡ comes_at ed levels place f
   then_comes k f o e first = ap (and_then (comes_at ed levels (place + k))) first ∙ sym (step (node.Then k) f e)
 
@@ -53,7 +53,7 @@ module _ (ed : Edition) (levels place : ℕ) (fits : place < 1564) where
   pub then_faults : (k : ℕ) (f : Forest) → node.Then k ≡ node_at place → Faults ≡ comes_at ed levels (place + 1) f → Faults ≡ comes_at ed levels place f
   then_faults k f e first = then_comes k f Faults e first
 
-  or_comes : (k : ℕ) (f : Forest) (o : Outcome) → node.Or k ≡ node_at place → o ≡ comes_at ed levels (place + 1) f →
+  pub or_comes : (k : ℕ) (f : Forest) (o : Outcome) → node.Or k ≡ node_at place → o ≡ comes_at ed levels (place + 1) f →
       otherwise o (comes_at ed levels (place + k)) f ≡ comes_at ed levels place f
   or_comes k f o e first = ap (λ p. otherwise p (comes_at ed levels (place + k)) f) first ∙ sym (step (node.Or k) f e)
 

@@ -19,7 +19,7 @@ rules_to edition (suc depth) k f = taken edition (rules_to edition depth) (says 
 
 -- the most rules that may stand in one another
 unfoldable pub most_levels : ℕ
-most_levels = 1024
+most_levels = 4096
 
 -- the rule of an entry point
 abbrev pub entry_rule : PrefixEntryPoint → Name

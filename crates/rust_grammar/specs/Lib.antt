@@ -12,3 +12,6 @@ pub mod Laws
 pub mod Table
 pub mod Classes
 pub mod Starts
+pub mod Frames
+pub mod Opened
+pub mod Turns

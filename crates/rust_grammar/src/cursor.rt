@@ -101,6 +101,6 @@ impl<'a> Cursor<'a> {
         ensures { IsTrue result → (ed : Edition) → comes_at ed levels place self.now ≡ Misses }
     {
         let starts = starts_at(place);
-        starts >> 60 <= levels as u64 && (starts >> self.class) & 1 == 0
+        (starts >> self.class) & 1 == 0 && starts >> 60 <= levels as u64
     }
 }

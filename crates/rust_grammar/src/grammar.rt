@@ -20,7 +20,7 @@ const FAULT: Prefix = Prefix {
 /// The grammar of Rust's fragments in an edition. `specs/Rules.antt` is its table of rules.
 ///
 /// It takes no memory. It passes groups without looking inside, except for what restricts a
-/// visibility. Where rules stand in one another more than 1,024 levels deep it answers a fault.
+/// visibility. Where rules stand in one another more than 4,096 levels deep it answers a fault.
 /// It may read trees again that an alternative gave back. Measured, not proved: the nodes that it
 /// visits for each tree do not grow with the input (docs/COMPATIBILITY.md).
 #[derive(Clone, Copy, Drop, Debug)]

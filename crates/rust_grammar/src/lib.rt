@@ -7,6 +7,7 @@
 #![tactic(auto)]
 
 mod cursor;
+mod frames;
 mod grammar;
 mod interpreter;
 pub mod laws;
@@ -14,6 +15,7 @@ mod names;
 mod node;
 mod nodes;
 mod outcome;
+mod parts;
 mod table;
 mod tokens;
 

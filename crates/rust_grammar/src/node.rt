@@ -36,3 +36,10 @@ pub(crate) enum Node {
     /// A rule, by its number.
     Rule(u8),
 }
+
+/// A place of the table, with so many levels of rules left.
+#[derive(Clone, Copy, Default)]
+pub(crate) struct At {
+    pub(crate) place: u16,
+    pub(crate) levels: u16,
+}
