@@ -34,8 +34,8 @@
  * Stack. expander_expand takes most, and a thread whose stack is too small ends the process by a signal. No
  * proof speaks of it. Measured, on unproved builds, it takes
  *   - 20 KiB, and 800 bytes for each level of calls: 220 KiB for 255;
- *   - with the grammar of Rust 92 KiB more for `return` 1,363 times, which is 4,096 of its rules in one
- *     another, and by count up to 0.5 MiB for others: what is deeper is not taken, and no rule fits the call;
+ *   - with the grammar of Rust up to 290 KiB more, where 4,096 of its rules are in one another, as in
+ *     `..` 4,090 times: what is deeper is not taken, and no rule fits the call;
  *   - with the small grammar 5 to 13 bytes more for each level of a type, so its bound is the text's length.
  * So 2 MiB are enough with the grammar of Rust, and 4 MiB leave room for other builds. Nothing else that a
  * text nests takes stack. The other calls took less than 8 KiB.
