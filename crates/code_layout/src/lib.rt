@@ -5,6 +5,7 @@ mod bars;
 mod layout;
 mod lines;
 mod measure;
+mod piece;
 mod pieces;
 mod short;
 mod sort;

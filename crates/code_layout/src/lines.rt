@@ -1,6 +1,6 @@
 //! Writes the lines of a text.
 
-use crate::pieces::{Piece, Space};
+use crate::piece::{Piece, Space};
 use crate::sort::Sort;
 use std::alloc::{AllocError, Global};
 

@@ -1,6 +1,6 @@
 //! How long what a token is in would be in one line.
 
-use crate::pieces::{Piece, Space};
+use crate::piece::{Piece, Space};
 use crate::sort::Sort;
 use std::alloc::{AllocError, Global};
 

@@ -1,6 +1,6 @@
 //! Braces with little in them, which stand in one line.
 
-use crate::pieces::{Piece, Space};
+use crate::piece::{Piece, Space};
 use crate::sort::Sort;
 
 // How many columns they have at most.

@@ -30,7 +30,8 @@ pub struct Live {
 }
 
 /// A text that is to be a source, as C hands it over: its number, the root and the edition of the
-/// crate that it belongs to, and its bytes. Without a root it is of the crate of the session's text.
+/// crate that it belongs to, and its bytes. Without a root it is of the crate of the session's
+/// text.
 #[derive(Clone, Copy)]
 pub(crate) struct Given<'a> {
     pub number: u32,

@@ -56,8 +56,8 @@ pub(crate) fn copy_origins(expansion: &Expansion, room: &mut [ByteRange]) -> Cod
     Code::Done
 }
 
-/// Copies the number of the text that each printed token comes from to the beginning of the room, if
-/// there is enough.
+/// Copies the number of the text that each printed token comes from to the beginning of the room,
+/// if there is enough.
 pub(crate) fn copy_sources(expansion: &Expansion, room: &mut [u32]) -> Code
     ensures { SourcesTold expansion.now room.old room.new result }
 {

@@ -47,8 +47,8 @@ fn fault_code(fault: TtFault) -> Code
     }
 }
 
-// Adds the definition of this index of a source, if it is in no inline module and not built into the
-// compiler.
+// Adds the definition of this index of a source, if it is in no inline module and not built into
+// the compiler.
 fn push_open(alloc: Global, prelude: &mut Prelude, source: &Source, i: usize) -> Result<(), TtFault>
     requires { i < length source.now.items }
     ensures { OnOk result (prelude.new

@@ -1,5 +1,5 @@
-//! Sessions after definitions of other texts, and where tokens come from. What is expanded anew, the
-//! script `preludes.script` of the examples shows.
+//! Sessions after definitions of other texts, and where tokens come from. The script
+//! `preludes.script` of the examples shows what is expanded anew.
 use crate::opened::{found, opened};
 use expander::{
     Edition, Expansion, Home, Origin, Prelude, Session, SmallGrammar, Source, SourceRead,

@@ -247,9 +247,9 @@ fn refused_runs(rt: HostRuntime) -> Result<(), Fail> {
     Ok(())
 }
 
-// A script, how many lines it has, and the bytes of the answers to so many lines. What is written for
-// it; and what for it if one of its lines is refused: the answers to a script without that line, and
-// its refusal.
+// A script, how many lines it has, and the bytes of the answers to so many lines. What is written
+// for it; and what for it if one of its lines is refused: the answers to a script without that
+// line, and its refusal.
 struct RefusedScript {
     script: &'static str,
     lines: usize,

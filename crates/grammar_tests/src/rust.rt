@@ -152,7 +152,8 @@ const ROWS: [(PrefixEntryPoint, Edition, &str, Option<usize>); 25] = [
     (PrefixEntryPoint::Vis, Edition::Edition2021, "a", Some(0)),
 ];
 
-// What begins no fragment by rustc 1.95, which then goes on with the next rule, and what ends one early.
+// What begins no fragment by rustc 1.95, which then goes on with the next rule, and what ends one
+// early.
 const BEGINNINGS: [(PrefixEntryPoint, Edition, &str, Option<usize>); 28] = [
     (
         PrefixEntryPoint::Path,

@@ -1,8 +1,8 @@
 -- One turn of the interpreter.
-use Rattle.std.specs.Prelude.{ℕ, ◌+◌, ◌<◌, ◌≤◌, ◌≡◌, ⊤, List}
+use Rattle.std.specs.Prelude.{ℕ, ◌+◌, ◌<◌, ◌≤◌, ◌≡◌, ◌∷◌, ⊤, Bool, List}
 use Rattle.tt_data.specs.Forest.{Forest}
 use Rattle.tt_data.specs.declared.edition.Edition.{Edition}
-use Rattle.rust_grammar.specs.Frames.{Frame, behind_all, turns_at, turns_behind_all}
+use Rattle.rust_grammar.specs.Frames.{Frame, frame, behind_all, turns_at, turns_behind_all}
 use Rattle.rust_grammar.specs.Table.{comes_at}
 use Rattle.rust_grammar.specs.declared.node.At.{At}
 use Rattle.rust_grammar.specs.declared.node.Node.{Node}
@@ -50,3 +50,9 @@ pub record GoesOn (ed : Edition) (before : Turn) (old : List Frame) (after : Tur
   pub same : behind_all ed new (comes_in ed after) ≡ behind_all ed old (comes_in ed before)
   pub fewer : turns_left ed after new < turns_left ed before old
   pub within : IsWithin after
+
+-- what came of a node's part closes the node, before which these trees were kept or not
+abbrev pub Leaves : At → Forest → Outcome → Turn → Type 0
+Leaves at kept found after =
+    (ed : Edition) (k : Bool) (frs : List Frame)
+    → GoesOn ed (turn.Came found) (frame at k kept ∷ frs) after frs

@@ -101,7 +101,8 @@ impl<'a> Frames<'a> {
     /// are not kept.
     pub(crate) fn close(&mut self) -> Option<(At, TokenTreesView<'a>)>
         ensures none { IfNone result (self.old ≡ []) }
-        ensures some { IfSome result (λ r. (k : Bool) × (self.old ≡ frame r.0 k (forest r.1) ∷ self.new)) }
+        ensures some { IfSome result (λ r. (k : Bool)
+            × (self.old ≡ frame r.0 k (forest r.1) ∷ self.new)) }
         ensures within { IfSome result (λ r. r.0.place < 1564) }
     {
         let last = self.open.pop()?;

@@ -8,7 +8,7 @@ ghost use Rattle.rust_grammar.specs.Frames.{Frame, frame, has_room};
 ghost use Rattle.rust_grammar.specs.Table.{comes_at, is_sound_token, token_of, node_at, expression_at, name_at, IsSound};
 ghost use Rattle.rust_grammar.specs.Rules.{says};
 ghost use Rattle.rust_grammar.specs.Tokens.{token_at};
-ghost use Rattle.rust_grammar.specs.Turns.{on, GoesOn, IsAsGood, IsOption};
+ghost use Rattle.rust_grammar.specs.Turns.{on, GoesOn, IsAsGood, IsOption, Leaves};
 ghost use Rattle.rust_grammar.specs.declared.node.Node.TheVariants as node;
 ghost use Rattle.rust_grammar.specs.declared.parts.Turn.TheVariants as turn;
 
@@ -122,7 +122,8 @@ fn if_plain<'a>(edition: Edition, at: At, trees: &Cursor<'a>) -> Option<Outcome<
     }
 }
 
-// Nothing is taken where the class of the first tree rules out the part of a node that may be left out.
+// Nothing is taken where the class of the first tree rules out the part of a node that may be left
+// out.
 #[inline]
 fn if_left_out<'a>(at: At, trees: &Cursor<'a>) -> Option<Outcome<'a>>
     requires node { IsOption (node_at at.place) }
@@ -299,7 +300,8 @@ fn read_rule<'a>(at: At, rule: u8, trees: Cursor<'a>) -> Turn<'a>
     requires node { node.Rule rule ≡ node_at at.place }
     requires sound { IsSound at.place (node.Rule rule) }
     requires within { at.place < 1564 }
-    ensures { (ed : Edition) (frs : List Frame) → GoesOn ed (turn.Node at trees.entry) frs result frs }
+    ensures { (ed : Edition) (frs : List Frame) →
+        GoesOn ed (turn.Node at trees.entry) frs result frs }
 {
     if at.levels == 0 {
         return Turn::Came(Outcome::Faults);
@@ -382,7 +384,8 @@ pub(crate) fn descend<'a>(
 fn leave_then<'a>(at: At, behind: u16, found: Outcome<'a>) -> Turn<'a>
     requires node { node.Then behind ≡ node_at at.place }
     requires sound { IsSound at.place (node.Then behind) }
-    ensures { (ed : Edition) (fr : Frame) (frs : List Frame) → fr.at ≡ at → GoesOn ed (turn.Came found.entry) (fr ∷ frs) result frs }
+    ensures { (ed : Edition) (fr : Frame) (frs : List Frame) → fr.at ≡ at →
+        GoesOn ed (turn.Came found.entry) (fr ∷ frs) result frs }
 {
     match found {
         Outcome::Fits(next) => Turn::Node(on(at, behind), next),
@@ -395,7 +398,7 @@ fn leave_then<'a>(at: At, behind: u16, found: Outcome<'a>) -> Turn<'a>
 fn leave_or<'a>(at: At, behind: u16, found: Outcome<'a>, trees: TokenTreesView<'a>) -> Turn<'a>
     requires node { node.Or behind ≡ node_at at.place }
     requires sound { IsSound at.place (node.Or behind) }
-    ensures { (ed : Edition) (k : Bool) (frs : List Frame) → GoesOn ed (turn.Came found.entry) (frame at k (forest trees.entry) ∷ frs) result frs }
+    ensures { Leaves at (forest trees.entry) found.entry result }
 {
     match found {
         Outcome::Misses => Turn::Node(on(at, behind), Cursor::new(trees.iter())),
@@ -408,7 +411,7 @@ fn leave_or<'a>(at: At, behind: u16, found: Outcome<'a>, trees: TokenTreesView<'
 fn leave_many<'a>(at: At, found: Outcome<'a>, trees: TokenTreesView<'a>) -> Turn<'a>
     requires node { node.Many ≡ node_at at.place }
     requires within { at.place < 1564 }
-    ensures { (ed : Edition) (k : Bool) (frs : List Frame) → GoesOn ed (turn.Came found.entry) (frame at k (forest trees.entry) ∷ frs) result frs }
+    ensures { Leaves at (forest trees.entry) found.entry result }
 {
     match found {
         Outcome::Fits(next) => Turn::Node(at, next),
@@ -420,7 +423,7 @@ fn leave_many<'a>(at: At, found: Outcome<'a>, trees: TokenTreesView<'a>) -> Turn
 // Behind what may be left out.
 fn leave_maybe<'a>(at: At, found: Outcome<'a>, trees: TokenTreesView<'a>) -> Turn<'a>
     requires node { node.Maybe ≡ node_at at.place }
-    ensures { (ed : Edition) (k : Bool) (frs : List Frame) → GoesOn ed (turn.Came found.entry) (frame at k (forest trees.entry) ∷ frs) result frs }
+    ensures { Leaves at (forest trees.entry) found.entry result }
 {
     match found {
         Outcome::Misses => Turn::Came(Outcome::Fits(Cursor::new(trees.iter()))),
@@ -433,7 +436,7 @@ fn leave_maybe<'a>(at: At, found: Outcome<'a>, trees: TokenTreesView<'a>) -> Tur
 #[inline]
 pub(crate) fn leave<'a>(at: At, found: Outcome<'a>, trees: TokenTreesView<'a>) -> Turn<'a>
     requires within { at.place < 1564 }
-    ensures { (ed : Edition) (k : Bool) (frs : List Frame) → GoesOn ed (turn.Came found.entry) (frame at k (forest trees.entry) ∷ frs) result frs }
+    ensures { Leaves at (forest trees.entry) found.entry result }
 {
     match read_node(at.place) {
         Node::Then(behind) => leave_then(at, behind, found),
