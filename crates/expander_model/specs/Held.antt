@@ -8,7 +8,8 @@ use Rattle.tt_data.specs.declared.span.Span.{Span}
 use Rattle.tt_data.specs.declared.span.SyntaxContext.TheVariants.{Written}
 use Rattle.expander_model.specs.Changes.{outcome_with}
 use Rattle.expander_model.specs.Definitions.{Definition, definition_of}
-use Rattle.expander_model.specs.Expansion.{World, Outcome, expansion}
+use Rattle.expander_model.specs.Expansion.{World, Outcome}
+use Rattle.expander_model.specs.Scoping.{expanded}
 use Rattle.expander_model.specs.Meaning.{Member, plain, defining}
 use Rattle.expander_model.specs.OtherPlaces.{definition_with}
 use Rattle.expander_model.specs.Pieces.{first_start, relative}
@@ -49,15 +50,15 @@ Stands p = StandFrom (first_text p) p
 abbrev pub StandFromFirst : Forest → Type 0
 StandFromFirst p = StandFrom 0 p
 
--- the tokens of a definition with this id have it as anchor
+-- the tokens of a definition with this id have it as anchor; 0 is no id, and they keep theirs
 abbrev pub anchored : ℕ → Span → Span
-anchored n s = record s { anchor = n }
+anchored n s = record s { anchor = if nat_eq n 0 then s.anchor else n }
 
 -- a span counted from n, as a span of the text that is expanded
 abbrev pub moved_on : ℕ → Span → Span
 moved_on n = moved_to (own_place n)
 
--- a definition with piece-relative spans, and the id of its tree
+-- a definition with piece-relative spans, and the id of its tree: 0 for one in a list
 pub record Numbered : Type 0 where
   pub number : ℕ
   pub definition : Definition
@@ -77,7 +78,12 @@ numbered_world world = record {
   broken = λ d. world.broken (anchored_definition d);
   fit = λ d argument. world.fit (anchored_definition d) argument;
   bursts = λ d argument. world.bursts (anchored_definition d) argument;
+  dialect = world.dialect;
 }
+
+-- a definition in a list: it has no id
+abbrev pub unnumbered : Definition → Numbered
+unnumbered d = record { number = 0; definition = d }
 
 -- what a name resolves to among the definitions before, which are given nearest first
 abbrev pub nearest_met : List Met → List ℕ → Option Met
@@ -143,7 +149,8 @@ module _ (world : World Definition) (depth : ℕ) (number_of : Forest → ℕ) w
   abbrev pub kept_of : List Met → Forest → Option Definition → Kept
   kept_of before piece (Some d) = met (met_of piece d)
   kept_of before piece None =
-      kept (first_start piece) before (relative piece) (expansion (numbered_world world) (numbered_scope before) depth None (relative piece))
+      kept (first_start piece) before (relative piece)
+      (expanded (numbered_world world) unnumbered (numbered_scope before) depth (relative piece))
 
   -- the pieces in order, each in the scope of the definitions before it, given nearest first
   abbrev pub kept_after : List Met → List Forest → List Kept

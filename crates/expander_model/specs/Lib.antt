@@ -1,8 +1,10 @@
 -- what a text means, in reading order
 pub mod Pieces
+pub mod PieceStates
 pub mod Definitions
 pub mod Calls
 pub mod Expansion
+pub mod Scoping
 pub mod Printing
 pub mod Faults
 pub mod Meaning

@@ -2,9 +2,11 @@
 //! with piece-relative spans. Everything here is about one text by itself: nothing is cached.
 #![tactic(auto)]
 
+pub mod begun;
 pub mod boundary;
 pub mod call;
 pub mod definition;
+pub mod dialect;
 pub mod edition_mark;
 pub mod fault;
 pub mod hashed_tree;

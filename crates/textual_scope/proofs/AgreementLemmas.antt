@@ -10,8 +10,9 @@ use Rattle.tt_data.specs.declared.leaf.Punct.{Punct}
 use Rattle.expander_model.specs.Calls.{Path, bare, from_crate, other, Marked, none, token, inside, call, marked, unmarked, key_of}
 use Rattle.expander_model.specs.Definitions.{Definition, nearest}
 use Rattle.expander_model.specs.Expansion.{World, CallSite, just, followed_by, grouped, found, bursting, before_group, whole_call}
-use Rattle.textual_scope.specs.declared.scope_rules.ScopeRules.{ScopeRules}
-use Rattle.textual_scope.specs.Scoping.{Around, argument, Scoped, Search, parts, definition_in, in_group, behind, only, and_next, in_brackets, fitted, at_level, unbroken, looked_up, at_key, at_call, kept_call, search_trees, search_part, search_parts, search_list, scoped}
+use Rattle.expander_model.specs.declared.dialect.ScopeRules.{ScopeRules}
+use Rattle.expander_model.specs.declared.dialect.Standing.TheVariants.{Argument}
+use Rattle.expander_model.specs.Scoping.{Around, Scoped, Search, parts, definition_in, in_group, behind, only, and_next, in_brackets, fitted, at_level, unbroken, looked_up, at_key, at_call, kept_call, search_trees, search_part, search_parts, search_list, scoped}
 use Rattle.textual_scope.proofs.ResultLemmas.{same_next}
 
 module _ {X : Type 0} (P : X → Type 0) where
@@ -92,7 +93,7 @@ module _ {D : Type 0} (rules : ScopeRules) (world : World D) (local : Definition
         → Agree (kept_call rules world local scope one around path name bang d inner) (kept_call rules world local others two around path name bang d inner)
     agree_kept around path name bang d inner h =
         ap (λ (a : Scoped D). only (followed_by (just around.outer (walk (before_group path name bang))) (grouped around.outer d a.outcome)))
-        (same (record around { standing = argument }) inner h)
+        (same (record around { standing = Argument }) inner h)
 
     agree_trees : (around : Around) (m : Marked) → Agree (search_trees rules world local scope one deep around m) (search_trees rules world local others two deep' around m)
     agree_trees around none h = refl

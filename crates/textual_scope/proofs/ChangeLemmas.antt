@@ -19,10 +19,12 @@ use Rattle.expander_model.specs.Definitions.{Definition, nearest}
 use Rattle.expander_model.specs.Expansion.{World, Outcome, CallSite, just, followed_by, grouped, faulted, found, bursting, before_group, whole_call}
 use Rattle.expander_model.specs.OtherPlaces.{definition_with}
 use Rattle.expander_model.proofs.DefinitionPlaceLemmas.{definition_of-with}
-use Rattle.textual_scope.specs.declared.scope_rules.ScopeRules.{ScopeRules}
-use Rattle.textual_scope.specs.declared.scope_rules.ScopeRules.TheVariants.{TopLevel, Rust}
+use Rattle.expander_model.specs.declared.dialect.ScopeRules.{ScopeRules}
+use Rattle.expander_model.specs.declared.dialect.ScopeRules.TheVariants.{TopLevel, Rust}
 use Rattle.textual_scope.specs.ScopeChanges.{around_with, scoped_with}
-use Rattle.textual_scope.specs.Scoping.{Around, Standing, top, enclosed, argument, Scoped, Search, parts, definition_in, is_left_out, in_group, behind, only, and_next, in_brackets, defined, fitted, at_level, unbroken, looked_up, at_key, at_call, kept_call, search_trees, search_part, search_parts, search_list, scoped}
+use Rattle.expander_model.specs.declared.dialect.Standing.TheVariants.{Top, Enclosed, Argument}
+use Rattle.expander_model.specs.declared.dialect.Standing.{Standing}
+use Rattle.expander_model.specs.Scoping.{Around, Scoped, Search, parts, definition_in, is_left_out, in_group, behind, only, and_next, in_brackets, defined, fitted, at_level, unbroken, looked_up, at_key, at_call, kept_call, search_trees, search_part, search_parts, search_list, scoped}
 use Rattle.textual_scope.proofs.MarkChangeLemmas.{ident_with, punct_with, path_with, marked_with, marked-with, in_front-with, unmarked-with, cut-with, outer-with, site_with, followed-with, just-with, walk-with, grouped-with, stays-with}
 use Rattle.textual_scope.proofs.ResultLemmas.{scoped_same}
 
@@ -46,9 +48,9 @@ behind-with : (f : Span → Span) (ds : List Definition) (around : Around) → b
 behind-with f ds around = ap (λ l. record { standing = around.standing; outer = option_map f around.outer; locals = l }) (sym (map-append (definition_with f) ds around.locals))
 
 in_group-with : (f : Span → Span) (d : Delimiter) (standing : Standing) → in_group (delimiter_with f d) standing ≡ in_group d standing
-in_group-with f d top = refl
-in_group-with f d enclosed = refl
-in_group-with f d argument = refl
+in_group-with f d Top = refl
+in_group-with f d Enclosed = refl
+in_group-with f d Argument = refl
 
 module _ {D E : Type 0} (f : Span → Span) (h : D → E) where
   next-with : (a : Scoped D) (b : Scoped E) (one : Around → Scoped D) (two : Around → Scoped E) (around : Around)
@@ -168,14 +170,14 @@ module _ {D E : Type 0} (f : Span → Span) (h : D → E) where
           ≡ scoped_with f h (kept_call rules w local scope one around path name bang d inner)
       kept-with around path name bang d inner =
           let lead : Outcome D = just around.outer (walk (before_group path name bang)) in
-          let held : Scoped D = one (record around { standing = argument }) inner in
+          let held : Scoped D = one (record around { standing = Argument }) inner in
           let lead' : Outcome E = just (option_map f around.outer) (walk (before_group (path_with f path) (ident_with f name) (punct_with f bang))) in
           let in_it : Scoped E → Outcome E = λ a. grouped (option_map f around.outer) (delimiter_with f d) a.outcome in
           let lead_is : lead' ≡ outcome_with f h lead =
           ap (λ (g : Forest). just {D = E} (option_map f around.outer) (walk g)) (in_front-with f path (leaf (as_leaf.Ident name) (leaf (as_leaf.Punct bang) empty)))
           ∙ walk-with f h around.outer (before_group path name bang) in
           only-with (followed_by lead (grouped around.outer d held.outcome)) _
-          (ap (λ (a : Scoped E). followed_by lead' (in_it a)) (same (record around { standing = argument }) inner)
+          (ap (λ (a : Scoped E). followed_by lead' (in_it a)) (same (record around { standing = Argument }) inner)
           ∙ ap (λ (o : Outcome E). followed_by o (in_it (scoped_with f h held))) lead_is
           ∙ ap (followed_by (outcome_with f h lead)) (grouped-with f h around.outer d held.outcome)
           ∙ sym (followed-with f h lead (grouped around.outer d held.outcome)))

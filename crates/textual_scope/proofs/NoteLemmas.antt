@@ -8,9 +8,10 @@ use Rattle.tt_data.specs.declared.leaf.Ident.{Ident}
 use Rattle.expander_model.specs.Calls.{Path, bare, from_crate, other, Marked, none, token, inside, call, marked, unmarked, key_of}
 use Rattle.expander_model.specs.Definitions.{Definition, nearest}
 use Rattle.expander_model.specs.Expansion.{World, CallSite, just, followed_by, grouped, faulted, found, bursting, before_group, whole_call}
-use Rattle.textual_scope.specs.declared.scope_rules.ScopeRules.{ScopeRules}
+use Rattle.expander_model.specs.declared.dialect.ScopeRules.{ScopeRules}
 use Rattle.textual_scope.specs.Limits.{Noted, definition, result, looked_in, unnoted, noted_world, noting, noted_list, noted}
-use Rattle.textual_scope.specs.Scoping.{Around, argument, Scoped, Search, parts, definition_in, in_group, behind, only, and_next, in_brackets, is_left_out, defined, fitted, at_level, unbroken, looked_up, at_key, at_call, search_trees, search_part, search_parts, search_list, scoped}
+use Rattle.expander_model.specs.declared.dialect.Standing.TheVariants.{Argument}
+use Rattle.expander_model.specs.Scoping.{Around, Scoped, Search, parts, definition_in, in_group, behind, only, and_next, in_brackets, is_left_out, defined, fitted, at_level, unbroken, looked_up, at_key, at_call, search_trees, search_part, search_parts, search_list, scoped}
 use Rattle.textual_scope.proofs.ResultLemmas.{same_next}
 
 module _ {D : Type 0} where
@@ -123,7 +124,7 @@ module _ {D : Type 0} (rules : ScopeRules) (world : World D) (local : Definition
         around (ap (in_brackets around.outer d) (same inner (unmarked a))) (λ here. unnoted-trees here rest)
     unnoted-trees around (call path name bang d a rest) =
         let site : CallSite = record { at = name.span; whole = whole_call path name bang d (unmarked a); argument = unmarked a } in
-        let inner : Around = record around { standing = argument } in
+        let inner : Around = record around { standing = Argument } in
         let kept : Scoped (Noted D) = only (followed_by (just around.outer (walk (before_group path name bang))) (grouped around.outer d (one inner (unmarked a)).outcome)) in
         let kept' : Scoped D = only (followed_by (just around.outer (walk (before_group path name bang))) (grouped around.outer d (two inner (unmarked a)).outcome)) in
         unnoted-next (at_call rules world' local' scope' deep around path name site kept) (at_call rules world local scope deep' around path name site kept')

@@ -10,8 +10,10 @@ use Rattle.expander_model.specs.Calls.{Path, bare, from_crate, other, Marked, no
 use Rattle.expander_model.specs.Definitions.{Definition}
 use Rattle.expander_model.specs.Expansion as expanding
 use Rattle.expander_model.specs.Expansion.{World, Outcome, Deeper, CallSite, just, followed_by, grouped, found, bursting, before_group, whole_call, search_calls, expansion}
-use Rattle.textual_scope.specs.declared.scope_rules.ScopeRules.{ScopeRules}
-use Rattle.textual_scope.specs.Scoping.{Standing, argument, without_locals, Scoped, Search, parts, definition_in, in_group, only, in_brackets, fitted, at_level, unbroken, looked_up, at_key, at_call, search_trees, search_part, search_parts, search_list, scoped}
+use Rattle.expander_model.specs.declared.dialect.ScopeRules.{ScopeRules}
+use Rattle.expander_model.specs.declared.dialect.Standing.TheVariants.{Argument}
+use Rattle.expander_model.specs.declared.dialect.Standing.{Standing}
+use Rattle.expander_model.specs.Scoping.{without_locals, Scoped, Search, parts, definition_in, in_group, only, in_brackets, fitted, at_level, unbroken, looked_up, at_key, at_call, search_trees, search_part, search_parts, search_list, scoped}
 use Rattle.textual_scope.proofs.ChainLemmas.{each}
 use Rattle.textual_scope.proofs.MarkLemmas.{AllInside, IsBelow, inside_marked}
 use Rattle.textual_scope.proofs.ResultLemmas.{same_next}
@@ -117,10 +119,10 @@ module _ {D : Type 0} (rules : ScopeRules) (world : World D) (local : Definition
           let of : Scoped D → Scoped D = λ x.
           at_call rules world local scope deep (without_locals standing outer) path name site (only (followed_by before (grouped outer d x.outcome))) in
           let kept : Outcome D = followed_by before (grouped outer d (expands outer a)) in
-          same_next (only (expanding.at_call world scope deeper outer path name site kept)) (of (search (without_locals argument outer) (unmarked a)))
+          same_next (only (expanding.at_call world scope deeper outer path name site kept)) (of (search (without_locals Argument outer) (unmarked a)))
           (λ here. only (expands outer rest)) (λ here. search_trees rules world local scope search deep here rest)
           (without_locals standing outer)
-          (ap of (held argument outer a h.0 plain.0) ∙ calls standing outer site plain.0 path name deep deeper same kept)
+          (ap of (held Argument outer a h.0 plain.0) ∙ calls standing outer site plain.0 path name deep deeper same kept)
           (trees standing outer rest h.1 plain.1)
 
       part : (standing : Standing) (outer : Option Span) (p : Forest) (d : Option Definition) → d ≡ None → size p ≤ k → Plain p

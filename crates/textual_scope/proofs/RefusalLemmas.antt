@@ -10,9 +10,10 @@ use Rattle.tt_data.specs.declared.leaf.Ident.{Ident}
 use Rattle.expander_model.specs.Calls.{Path, bare, from_crate, other, Marked, none, token, inside, call, marked, unmarked, key_of}
 use Rattle.expander_model.specs.Definitions.{Definition, nearest}
 use Rattle.expander_model.specs.Expansion.{World, CallSite, just, followed_by, grouped, faulted, found, bursting, before_group, whole_call}
-use Rattle.textual_scope.specs.declared.scope_rules.ScopeRules.{ScopeRules}
+use Rattle.expander_model.specs.declared.dialect.ScopeRules.{ScopeRules}
 use Rattle.textual_scope.specs.Limits.{Limits, Noted, definition, result, noted_world, noting, noted_list, noted, until_passed, too_large}
-use Rattle.textual_scope.specs.Scoping.{Around, argument, Scoped, Search, parts, definition_in, in_group, behind, only, and_next, in_brackets, is_left_out, fitted, at_level, unbroken, looked_up, at_key, at_call, search_trees, search_part, search_parts}
+use Rattle.expander_model.specs.declared.dialect.Standing.TheVariants.{Argument}
+use Rattle.expander_model.specs.Scoping.{Around, Scoped, Search, parts, definition_in, in_group, behind, only, and_next, in_brackets, is_left_out, fitted, at_level, unbroken, looked_up, at_key, at_call, search_trees, search_part, search_parts}
 use Rattle.textual_scope.proofs.ResultLemmas.{same_next}
 
 -- ---- notes, as far as they agree
@@ -223,7 +224,7 @@ module _ {D : Type 0} (rules : ScopeRules) (world : World D) (local : Definition
         around (both_with others (one inner (unmarked a)) (two inner (unmarked a)) (in_brackets around.outer d) (λ x. refl) (same inner (unmarked a))) (λ here. both_trees here rest)
     both_trees around (call path name bang d a rest) =
         let site : CallSite = record { at = name.span; whole = whole_call path name bang d (unmarked a); argument = unmarked a } in
-        let inner : Around = record around { standing = argument } in
+        let inner : Around = record around { standing = Argument } in
         let of : Scoped (Noted D) → Scoped (Noted D) = λ x. only (followed_by (just around.outer (walk (before_group path name bang))) (grouped around.outer d x.outcome)) in
         both_next others (at_call rules (noted_world world) local' one_scope deep around path name site (of (one inner (unmarked a)))) (at_call rules (noted_world world) local' two_scope deep' around path name site (of (two inner (unmarked a))))
         (λ here. search_trees rules (noted_world world) local' one_scope one deep here rest) (λ here. search_trees rules (noted_world world) local' two_scope two deep' here rest)

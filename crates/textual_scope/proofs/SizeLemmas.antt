@@ -8,9 +8,10 @@ use Rattle.expander_model.specs.Calls.{Marked, none, token, inside, call, marked
 use Rattle.expander_model.specs.Definitions.{Definition}
 use Rattle.expander_model.specs.Expansion.{World, CallSite, just, followed_by, grouped, before_group, whole_call}
 use Rattle.expander_model.specs.Pieces.{cut_from, ends_piece}
-use Rattle.textual_scope.specs.declared.scope_rules.ScopeRules.{ScopeRules}
-use Rattle.textual_scope.specs.declared.scope_rules.ScopeRules.TheVariants.{TopLevel, Rust}
-use Rattle.textual_scope.specs.Scoping.{Around, argument, Scoped, Search, parts, definition_in, in_group, behind, only, in_brackets, at_call, search_trees, search_part, search_parts, search_list}
+use Rattle.expander_model.specs.declared.dialect.ScopeRules.{ScopeRules}
+use Rattle.expander_model.specs.declared.dialect.ScopeRules.TheVariants.{TopLevel, Rust}
+use Rattle.expander_model.specs.declared.dialect.Standing.TheVariants.{Argument}
+use Rattle.expander_model.specs.Scoping.{Around, Scoped, Search, parts, definition_in, in_group, behind, only, in_brackets, at_call, search_trees, search_part, search_parts, search_list}
 use Rattle.textual_scope.proofs.MarkLemmas.{AllInside, IsBelow, inside_marked}
 use Rattle.textual_scope.proofs.ResultLemmas.{same_next}
 
@@ -64,7 +65,7 @@ module _ {D : Type 0} (rules : ScopeRules) (world : World D) (local : Definition
         let of : Scoped D → Scoped D = λ x.
         at_call rules world local scope deeper around path name site
         (only (followed_by (just around.outer (walk (before_group path name bang))) (grouped around.outer d x.outcome))) in
-        let inner : Around = record around { standing = argument } in
+        let inner : Around = record around { standing = Argument } in
         let first : Scoped D = of (one inner (unmarked a)) in
         same_next first (of (two inner (unmarked a)))
         (λ here. search_trees rules world local scope one deeper here rest) (λ here. search_trees rules world local scope two deeper here rest)

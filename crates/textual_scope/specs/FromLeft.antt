@@ -1,16 +1,18 @@
 -- A list searched tree by tree, from the left, where its pieces are not cut off beforehand.
-use Rattle.std.specs.Prelude.{◌≡◌, ℕ, Bool, true, List, Option, if◌then◌else◌}
-use Rattle.tt_data.specs.Forest.{Forest, empty, leaf, group, joined}
+use Rattle.std.specs.Prelude.{◌≡◌, ℕ, Bool, true, false, List, Option, if◌then◌else◌}
+use Rattle.tt_data.specs.Forest.{Forest, empty, leaf, group}
 use Rattle.tt_data.specs.declared.delimiter.Delimiter.{Delimiter}
 use Rattle.tt_data.specs.declared.leaf.Leaf.{Leaf}
 use Rattle.tt_data.specs.declared.leaf.Punct.{Punct}
-use Rattle.bridge.specs.Text.{is_punct}
 use Rattle.expander_model.specs.Calls.{Path, bare, from_crate, other, is_bang_group, is_colons, is_root, marked}
 use Rattle.expander_model.specs.Definitions.{Definition}
 use Rattle.expander_model.specs.Expansion.{World}
-use Rattle.expander_model.specs.Pieces.{cut, ends_piece}
-use Rattle.textual_scope.specs.declared.scope_rules.ScopeRules.TheVariants.{Rust}
-use Rattle.textual_scope.specs.Scoping.{Around, Scoped, Search, and_next, search_trees, search_parts}
+use Rattle.expander_model.specs.PieceStates.{after_leaf, after_group}
+use Rattle.expander_model.specs.Pieces.{cut}
+use Rattle.expander_model.specs.declared.begun.Begun.{Begun}
+use Rattle.expander_model.specs.declared.begun.Begun.TheVariants.{Nothing}
+use Rattle.expander_model.specs.declared.dialect.ScopeRules.TheVariants.{Rust}
+use Rattle.expander_model.specs.Scoping.{Around, Scoped, Search, and_next, search_trees, search_parts}
 
 -- a tree before those of the first piece ahead
 abbrev pub with_leaf : Leaf → Forest × Forest → Forest × Forest
@@ -19,15 +21,21 @@ with_leaf l p = (leaf l p.0, p.1)
 abbrev pub with_group : Delimiter → Forest → Forest × Forest → Forest × Forest
 with_group d inner p = (group d inner p.0, p.1)
 
--- the trees up to the end of the piece that `begun` begins, and those after it
-abbrev pub piece_ahead : Forest → Forest → Forest × Forest
-piece_ahead begun empty = (empty, empty)
-piece_ahead begun (leaf l rest) =
-    if is_punct ";" l then (leaf l empty, rest)
-    else with_leaf l (piece_ahead (joined begun (leaf l empty)) rest)
-piece_ahead begun (group d inner rest) =
-    if ends_piece begun d then (group d inner empty, rest)
-    else with_group d inner (piece_ahead (joined begun (group d inner empty)) rest)
+-- no tree has come of the piece
+abbrev pub is_begun : Begun → Bool
+is_begun Nothing = false
+is_begun _ = true
+
+-- the trees up to the end of a piece of which so much came, and those after it
+abbrev pub piece_ahead : Begun → Forest → Forest × Forest
+piece_ahead s empty = (empty, empty)
+piece_ahead s (leaf l rest) =
+    if is_begun (after_leaf s l) then with_leaf l (piece_ahead (after_leaf s l) rest)
+    else (leaf l empty, rest)
+piece_ahead s (group d inner rest) =
+    if is_begun (after_group s d.kind)
+    then with_group d inner (piece_ahead (after_group s d.kind) rest)
+    else (group d inner empty, rest)
 
 -- these tokens before a visible group are a call's: its path, its name and `!`
 abbrev pub AreOfCall : Path → Punct → Delimiter → Type 0
@@ -42,13 +50,13 @@ module _ {D : Type 0} (world : World D) (local : Definition → D) (scope : List
   abbrev pub pieces_left : Around → Forest → Scoped D
   pieces_left around f = search_parts Rust world local scope search deeper around (cut f)
 
-  -- the search of what is left of a list, where `begun` begins a piece that is no definition
-  abbrev pub trees_left : Forest → Around → Forest → Scoped D
-  trees_left begun around f =
-      let p : Forest × Forest = piece_ahead begun f in
+  -- the search of what is left of a list, where so much came of a piece that is no definition
+  abbrev pub trees_left : Begun → Around → Forest → Scoped D
+  trees_left s around f =
+      let p : Forest × Forest = piece_ahead s f in
       and_next (search_trees Rust world local scope search deeper around (marked p.0))
       (λ here. pieces_left here p.1) around
 
-  -- the same, once this tree ends the piece or goes on with it
-  abbrev pub left_after : Bool → Forest → Around → Forest → Scoped D
-  left_after ends begun around f = if ends then pieces_left around f else trees_left begun around f
+  -- the same, once a tree ended the piece or went on with it
+  abbrev pub left_after : Begun → Around → Forest → Scoped D
+  left_after s around f = if is_begun s then trees_left s around f else pieces_left around f

@@ -3,7 +3,7 @@ use Rattle.std.specs.Prelude.{map, option_map}
 use Rattle.tt_data.specs.declared.span.Span.{Span}
 use Rattle.expander_model.specs.Changes.{outcome_with}
 use Rattle.expander_model.specs.OtherPlaces.{definition_with}
-use Rattle.textual_scope.specs.Scoping.{Around, Scoped}
+use Rattle.expander_model.specs.Scoping.{Around, Scoped}
 
 -- what is around a list, with f applied to its spans
 abbrev pub around_with : (Span → Span) → Around → Around

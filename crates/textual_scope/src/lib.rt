@@ -1,6 +1,5 @@
-//! Rust's textual scope: definitions in lists of trees, and those that expansions make. It is what
-//! they mean, with laws; no code expands by it yet.
+//! Laws of Rust's textual scope: of definitions in lists of trees, and of those that expansions
+//! make.
 #![tactic(auto)]
 
 pub mod laws;
-pub mod scope_rules;

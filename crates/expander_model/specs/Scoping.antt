@@ -13,14 +13,10 @@ use Rattle.expander_model.specs.Calls.{Path, bare, from_crate, other, Marked, no
 use Rattle.expander_model.specs.Definitions.{Definition, definition_of, nearest}
 use Rattle.expander_model.specs.Expansion.{World, Outcome, CallSite, just, followed_by, grouped, faulted, found, bursting, stays, before_group, whole_call}
 use Rattle.expander_model.specs.Pieces.{cut}
-use Rattle.textual_scope.specs.declared.scope_rules.ScopeRules.{ScopeRules}
-use Rattle.textual_scope.specs.declared.scope_rules.ScopeRules.TheVariants.{TopLevel, Rust}
-
--- where a list is: in no visible group, in one, or in the argument of a call that stays
-pub data Standing : Type 0 where
-  top : Standing
-  enclosed : Standing
-  argument : Standing
+use Rattle.expander_model.specs.declared.dialect.ScopeRules.{ScopeRules}
+use Rattle.expander_model.specs.declared.dialect.ScopeRules.TheVariants.{TopLevel, Rust}
+use Rattle.expander_model.specs.declared.dialect.Standing.{Standing}
+use Rattle.expander_model.specs.declared.dialect.Standing.TheVariants.{Top, Enclosed, Argument}
 
 -- what is around a list: where it is, the name of the outermost call that gave it or none, and the
 -- definitions before it in the lists around it, the nearest first
@@ -54,12 +50,12 @@ definition_in Rust part = definition_of part
 
 -- a definition in a visible group is left out of the output: what could find it was expanded
 abbrev pub is_left_out : Standing → Bool
-is_left_out enclosed = true
+is_left_out Enclosed = true
 is_left_out _ = false
 
 -- where the list in a group is
 abbrev pub in_group : Delimiter → Standing → Standing
-in_group d top = if is_visible d.kind then enclosed else top
+in_group d Top = if is_visible d.kind then Enclosed else Top
 in_group d standing = standing
 
 -- what is around what follows these definitions
@@ -138,7 +134,7 @@ module _ {D : Type 0} (rules : ScopeRules) (world : World D) (local : Definition
   abbrev pub kept_call : Search D → Around → Path → Ident → Punct → Delimiter → Forest → Scoped D
   kept_call search around path name bang d inner =
       only (followed_by (just around.outer (walk (before_group path name bang)))
-      (grouped around.outer d (search (record around { standing = argument }) inner).outcome))
+      (grouped around.outer d (search (record around { standing = Argument }) inner).outcome))
 
   -- trees whose calls are marked, from left to right; `search` searches what a group holds
   abbrev pub search_trees : Search D → Option (Search D) → Around → Marked → Scoped D
@@ -180,3 +176,8 @@ module _ {D : Type 0} (rules : ScopeRules) (world : World D) (local : Definition
   abbrev pub scoped : ℕ → Search D
   scoped zero around f = search_list None (suc (size f)) around f
   scoped (suc n) around f = search_list (Some (scoped n)) (suc (size f)) around f
+
+-- the expansion of a piece in the world's dialect, where nothing is around it
+abbrev pub expanded : {D : Type 0} → World D → (Definition → D) → (List ℕ → Option D) → ℕ → Forest → Outcome D
+expanded world local scope depth piece =
+    (scoped world.dialect.scope world local scope depth (without_locals Top None) piece).outcome
