@@ -4,7 +4,7 @@ use Rattle.std.specs.Prelude.{◌&&◌, ◌||◌, codes, is_some}
 use Rattle.tt.specs.FirstTrees.{first_ident, first_punct, first_group}
 use Rattle.tt_data.specs.Forest.{Forest, empty, leaf, group, map_spans}
 use Rattle.tt_data.specs.Spans.{delimiter_with}
-use Rattle.tt_data.proofs.ForestLemmas.{map_spans-map_spans}
+use Rattle.tt_data.proofs.ForestLemmas.{map_spans-map_spans, map_spans-same}
 use Rattle.tt_data.specs.declared.delimiter.Delimiter.{Delimiter}
 use Rattle.tt_data.specs.declared.delimiter.DelimiterKind.TheVariants.{Parenthesis, Brace, Bracket}
 use Rattle.tt_data.specs.declared.leaf.Ident.{Ident}
@@ -14,6 +14,20 @@ use Rattle.bridge.specs.Text.{same_kind, is_char}
 use Rattle.expander_model.specs.Definitions.{Definition, after_attributes, after_macro_rules, after_parenthesis, after_pub, after_word, is_semicolon, ends_definition, macro_rules_of, macro_body, macro_of, or_else, definition_of}
 use Rattle.expander_model.specs.OtherPlaces.{definition_with}
 use Rattle.small_grammar.specs.Text.{has_text, ◌>>=◌, ◌>>◌, is_empty}
+
+-- no change
+pub definition_with-same : (d : Definition) → definition_with (λ s. s) d ≡ d
+definition_with-same d = λ i. record {
+  name = d.name;
+  arguments = same d.arguments i;
+  body = map_spans-same d.body i;
+  is_macro = d.is_macro;
+  piece = map_spans-same d.piece i;
+}
+  where
+    same : (a : Option Forest) → option_map (map_spans (λ s. s)) a ≡ a
+    same None = refl
+    same (Some x) = ap Some (map_spans-same x)
 
 -- one change after another
 pub definition_with-with : (f g : Span → Span) (d : Definition) → definition_with f (definition_with g d) ≡ definition_with (λ s. f (g s)) d

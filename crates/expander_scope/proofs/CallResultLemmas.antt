@@ -1,84 +1,41 @@
 -- What a call adds to the output of a search.
-use Rattle.std.proofs.Common.{◌≡◌, ℕ, ◌-◌, ◌<◌, zero, suc, List, [], ◌∷◌, ◌++◌, refl, sym, ap, subst, ◌∙◌, append_assoc, append-nil, arith, Bool, true, false, if◌then◌else◌}
-use Rattle.std.specs.Prelude.{map, Option, Some, None, unwrap_or, Ok, Err, not, ◌&&◌}
+use Rattle.std.proofs.Common.{◌≡◌, ℕ, ◌-◌, ◌<◌, ◌*◌, ◌+◌, zero, suc, List, [], ◌∷◌, ◌++◌, refl, sym, ap, subst, ◌∙◌, append_assoc, append-nil, arith, Bool, true, false, if◌then◌else◌}
+use Rattle.std.specs.Prelude.{map, Option, Some, None, unwrap_or, option_map, is_some, Ok, Err, not, ◌&&◌}
 use Rattle.tt_data.specs.Forest.{Forest, joined}
 use Rattle.tt_data.specs.Walk.{Step, walk}
+use Rattle.tt_data.specs.declared.delimiter.Delimiter.{Delimiter}
+use Rattle.tt_data.specs.declared.leaf.Ident.{Ident}
+use Rattle.tt_data.specs.declared.leaf.Punct.{Punct}
 use Rattle.tt_data.specs.declared.span.Span.{Span}
+use Rattle.bridge.specs.Text.{is_visible}
+use Rattle.small_grammar.specs.Text.{same_text}
+use Rattle.expander_model.specs.CallSteps.{call_at, call_behind_colons, key_at}
+use Rattle.expander_model.specs.Calls.{Path, bare, from_crate, other, key_of, is_bang_group}
+use Rattle.expander_model.specs.Definitions.{Definition, nearest, or_else}
+use Rattle.expander_model.specs.Expansion.{World, Outcome, CallSite, PlacedStep, placed, just, followed_by, grouped, bursting, stays, before_group, whole_call}
+use Rattle.expander_model.specs.Held.{Numbered, unnumbered}
+use Rattle.expander_model.specs.PieceStates.{after_group}
+use Rattle.expander_model.specs.Scoping.{Around, Scoped, Search, and_next, at_call, at_key, fitted, in_brackets, kept_call, looked_up, only, unbroken}
+use Rattle.expander_model.specs.declared.begun.Begun.TheVariants.{Other}
 use Rattle.expander_model.specs.declared.call.Call.{Call}
-use Rattle.expander_model.specs.Held.{Numbered}
-use Rattle.expander_scope.specs.Outcomes.{find_of, parts_of}
-use Rattle.expander_scope.specs.Sinks.{TakesMore}
-use Rattle.expander_scope.specs.declared.expand.Expanding.{Expanding}
+use Rattle.expander_model.specs.declared.dialect.ScopeRules.{ScopeRules}
+use Rattle.expander_model.specs.declared.dialect.Standing.TheVariants.{Argument}
 use Rattle.expander_model.specs.declared.fault.FaultKind.{FaultKind}
 use Rattle.expander_model.specs.declared.fault.FaultKind.TheVariants.{CannotExpand, BrokenDefinition, RecursionLimit}
-use Rattle.bridge.specs.declared.printing.event.TokenEvent.{TokenEvent}
-use Rattle.expander_model.specs.declared.tree_walk.TreeWalk.{TreeWalk}
-use Rattle.expander_model.specs.CallSteps.{call_at, call_behind_colons, key_at}
-use Rattle.expander_model.specs.Expansion.{World, Outcome, CallSite, PlacedStep, placed, just, followed_by, bursting, found, stays, unbroken, fitted, expansion}
-use Rattle.bridge.specs.TokenEvents.{step_of}
-use Rattle.expander_model.specs.WalkSteps.{groups_of, GoesOn}
-use Rattle.expander_scope.specs.Expanding.{deeper_at, searched, answer_at, answer, makes_too_many, Adds, Expands, Turn}
-use Rattle.expander_scope.proofs.OutcomeLemmas.{or_first, or_later, followed_assoc, followed_nil, left, passed_left, step_left, nothing_left, steps_in, walk_search, work_of}
+use Rattle.expander_scope.specs.Expanding.{deeper_at, searched, answer_at, answer, makes_too_many, Adds}
+use Rattle.expander_scope.specs.ListsLeft.{IsAhead, Left, Place, all_left, groups_left, in_list, list_left, then_left}
+use Rattle.expander_scope.specs.Outcomes.{find_of}
+use Rattle.expander_scope.specs.Sinks.{TakesMore}
+use Rattle.expander_scope.specs.Turns.{begun_behind, is_bare, kept_left, local_at, lookups_of, resolved}
+use Rattle.expander_scope.specs.declared.expand.Expanding.{Expanding}
+use Rattle.expander_scope.proofs.ListLemmas.{IsPlain, called_in, here_in, left_call, passed_in, scoped_is, then_assoc}
+use Rattle.expander_scope.proofs.OutcomeLemmas.{or_first, or_later}
 use Rattle.expander_scope.proofs.SinkLemmas.{takes_both, takes_none}
-use Rattle.expander_scope.proofs.TurnLemmas.{call_smaller, colons_smaller, rest_smaller, is_search, unknown_search, colons_search, known_search, leaf_search}
+use Rattle.expander_scope.proofs.TurnLemmas.{IsCall, call_is_call, colons_is_call, is_open, names_alone, joined_call, visible_call}
 
-pub expansion_is : (world : World Numbered) (scope : List ℕ → Option Numbered) (depth : ℕ) (outer : Option Span) (f : Forest) → expansion world scope depth outer f ≡ searched world scope depth outer f
-expansion_is world scope zero outer f = refl
-expansion_is world scope (suc n) outer f = refl
-
--- ---- what a definition says
-
-module _ (world : World Numbered) (scope : List ℕ → Option Numbered) (d : Numbered) (outer : Option Span) (site : CallSite) where
-  abbrev of_call : Bool → ℕ → Outcome Numbered
-  of_call broken depth = unbroken world d broken (deeper_at world scope depth) outer site
-
-  stays_at : (broken : Bool) (depth : ℕ) (given : Option Forest) (kind : FaultKind) → world.fit d site.argument ≡ given
-      → (if broken then Err BrokenDefinition else answer_at depth given) ≡ Err kind
-      → (b : Bool) × (of_call broken depth ≡ bursting b (stays kind outer site))
-  stays_at true depth given kind fits e = let is : BrokenDefinition ≡ kind = cc in (false, ap (λ k. stays k outer site) is)
-  stays_at false zero given kind fits e = let is : RecursionLimit ≡ kind = cc in (false, ap (λ k. stays k outer site) is)
-  stays_at false (suc n) None kind fits e =
-      let is : CannotExpand ≡ kind = cc in
-      let b : Bool = world.bursts d site.argument in
-      (b, ap (λ o. bursting b (fitted (expansion world scope n) outer site o)) fits ∙ ap (λ k. bursting b (stays k outer site)) is)
-  stays_at false (suc n) (Some g) kind fits e = absurd (cc e)
-
-  pub stays_is : (depth : ℕ) (kind : FaultKind) → answer world d depth site.argument ≡ Err kind
-      → (b : Bool) × (of_call (world.broken d) depth ≡ bursting b (stays kind outer site))
-  stays_is depth kind e = stays_at (world.broken d) depth (world.fit d site.argument) kind refl e
-
-  comes_at : (broken : Bool) (depth : ℕ) (given : Option Forest) (g : Forest) → world.fit d site.argument ≡ given
-      → (if broken then Err BrokenDefinition else answer_at depth given) ≡ Ok g
-      → (0 < depth) × (of_call broken depth ≡ bursting (world.bursts d site.argument) (searched world scope (depth - 1) (Some (unwrap_or outer site.at)) g))
-  comes_at true depth given g fits e = absurd (cc e)
-  comes_at false zero given g fits e = absurd (cc e)
-  comes_at false (suc n) None g fits e = absurd (cc e)
-  comes_at false (suc n) (Some h) g fits e =
-      let is : h ≡ g = cc in
-      let b : Bool = world.bursts d site.argument in
-      let at : Option Span = Some (unwrap_or outer site.at) in
-      let less : suc n - 1 ≡ n = omega arith in (
-        omega arith,
-        ap (λ o. bursting b (fitted (expansion world scope n) outer site o)) fits
-            ∙ ap (bursting b) (ap (expansion world scope n at) is ∙ expansion_is world scope n at g ∙ ap (λ m. searched world scope m at g) (sym less)),
-      )
-
-  pub comes_is : (depth : ℕ) (g : Forest) → answer world d depth site.argument ≡ Ok g
-      → (0 < depth) × (of_call (world.broken d) depth ≡ bursting (world.bursts d site.argument) (searched world scope (depth - 1) (Some (unwrap_or outer site.at)) g))
-  comes_is depth g e = comes_at (world.broken d) depth (world.fit d site.argument) g refl e
-
-  bursts_at : (broken : Bool) (n : ℕ) → (not broken && world.bursts d site.argument) ≡ true → (of_call broken (suc n)).bursts ≡ true
-  bursts_at true n e = absurd (cc e)
-  bursts_at false n e = or_first _ _ e
-
-  pub bursts_is : (depth : ℕ) → makes_too_many world d depth site.argument ≡ true → (of_call (world.broken d) depth).bursts ≡ true
-  bursts_is zero e = absurd (cc e)
-  bursts_is (suc n) e = bursts_at (world.broken d) n e
-
--- a level is left where a result comes
-pub deep : (world : World Numbered) (d : Numbered) (depth : ℕ) (argument g : Forest) → answer world d depth argument ≡ Ok g → 0 < depth
-deep world d depth argument g e =
-    (comes_is world (λ name. None) d None (record { at = d.definition.name.span; whole = argument; argument = argument }) depth g e).0
+-- look-ups alone
+abbrev pub looks : List (List ℕ × Option Numbered) → Outcome Numbered
+looks xs = record { steps = []; faults = []; finds = xs; bursts = false }
 
 -- ---- what is added
 
@@ -111,190 +68,241 @@ module _ {S : Type 0} (Has : S → List PlacedStep → Type 0) where
     finds = adds.finds ∙ ap (λ s. s ++ []) finds;
   }
 
-  -- a name is looked up, and then so much is added
-  pub adds_found : (old mid new : Expanding S) (name : List ℕ) (d : Option Numbered) (o : Outcome Numbered) → mid.output ≡ old.output
-      → mid.faults.items ≡ old.faults.items → map find_of mid.finds.items ≡ map find_of old.finds.items ++ (name, d) ∷ []
-      → Adds Has mid new o → Adds Has old new (found name d o)
-  adds_found old mid new name d o sink faults finds adds = record {
+  -- names are looked up, and then so much is added
+  pub adds_looks : (old mid new : Expanding S) (xs : List (List ℕ × Option Numbered)) (o : Outcome Numbered) → mid.output ≡ old.output
+      → mid.faults ≡ old.faults → map find_of mid.finds.items ≡ map find_of old.finds.items ++ xs
+      → Adds Has mid new o → Adds Has old new (followed_by (looks xs) o)
+  adds_looks old mid new xs o sink faults finds adds = record {
     steps = subst (λ s. TakesMore Has s new.output o.steps) sink adds.steps;
-    faults = adds.faults ∙ ap (λ s. s ++ o.faults) faults;
-    finds = adds.finds ∙ ap (λ s. s ++ o.finds) finds ∙ append_assoc (map find_of old.finds.items) ((name, d) ∷ []) o.finds;
+    faults = adds.faults ∙ ap (λ s. s.items ++ o.faults) faults;
+    finds = adds.finds ∙ ap (λ s. s ++ o.finds) finds ∙ append_assoc (map find_of old.finds.items) xs o.finds;
   }
 
-  module _ (world : World Numbered) (scope : List ℕ → Option Numbered) (depth : ℕ) (outer : Option Span) (old new : Expanding S) (f : Forest) (c : Call) where
-    -- the call is kept up to its group
-    pub unknown_turn : call_at f ≡ Some c → scope (key_at f c) ≡ None → (w : Forest) → f ≡ joined w c.from_group
-        → Adds Has old new (found (key_at f c) None (just outer (walk w))) → Turn Has (searched world scope depth outer) old new f c.from_group
-    unknown_turn e nothing w passed adds = record {
-      outcome = found (key_at f c) None (just outer (walk w));
-      is = unknown_search world scope (deeper_at world scope depth) outer f c e nothing w passed;
-      adds = adds;
-      less = call_smaller f c e;
-    }
+-- ---- what a definition says
 
-    pub colons_turn : call_behind_colons f ≡ Some c → (w : Forest) → f ≡ joined w c.from_group
-        → Adds Has old new (just outer (walk w)) → Turn Has (searched world scope depth outer) old new f c.from_group
-    colons_turn e w passed adds = record {
-      outcome = just outer (walk w);
-      is = colons_search world scope (deeper_at world scope depth) outer f c e w passed;
-      adds = adds;
-      less = colons_smaller f c e;
-    }
+module _ (world : World Numbered) (scope : List ℕ → Option Numbered) (r : ScopeRules) (d : Numbered) (around : Around) (site : CallSite) where
+  abbrev of_call : Bool → ℕ → Scoped Numbered
+  of_call broken depth = unbroken r world unnumbered scope d broken (deeper_at world scope depth) around site
 
-    module _ (d : Numbered) (e : call_at f ≡ Some c) (finds : scope (key_at f c) ≡ Some d) (w : Forest) (passed : f ≡ joined w c.rest) where
-      abbrev site : CallSite
-      site = record { at = c.name.span; whole = w; argument = c.argument }
+  -- the search of a result, one level deeper
+  abbrev pub deeper : ℕ → Forest → Scoped Numbered
+  deeper depth g = searched world scope (depth - 1) (record around { outer = Some (unwrap_or around.outer site.at) }) g
 
-      known_turn : (o : Outcome Numbered) → (b : Bool) → of_call world scope d outer site (world.broken d) depth ≡ bursting b o → Adds Has old new (found (key_at f c) (Some d) o)
-          → Turn Has (searched world scope depth outer) old new f c.rest
-      known_turn o b is adds = record {
-        outcome = found (key_at f c) (Some d) (bursting b o);
-        is = known_search world scope (deeper_at world scope depth) outer f c d e finds w passed
-            ∙ ap (λ x. followed_by (found (key_at f c) (Some d) x) (searched world scope depth outer c.rest)) is;
-        adds = record { steps = adds.steps; faults = adds.faults; finds = adds.finds };
-        less = rest_smaller f c e;
-      }
+  abbrev pub bursting_too : Bool → Scoped Numbered → Scoped Numbered
+  bursting_too b a = record a { outcome = bursting b a.outcome }
 
-      -- the call stays for a fault
-      pub stays_turn : (kind : FaultKind) → answer world d depth c.argument ≡ Err kind → Adds Has old new (found (key_at f c) (Some d) (stays kind outer site))
-          → Turn Has (searched world scope depth outer) old new f c.rest
-      stays_turn kind says adds =
-          let is = stays_is world scope d outer site depth kind says in
-          known_turn (stays kind outer site) is.0 is.1 adds
+  stays_at : (broken : Bool) (depth : ℕ) (given : Option Forest) (kind : FaultKind) → world.fit d site.argument ≡ given
+      → (if broken then Err BrokenDefinition else answer_at depth given) ≡ Err kind
+      → (b : Bool) × (of_call broken depth ≡ only (bursting b (stays kind around.outer site)))
+  stays_at true depth given kind fits e = let is : BrokenDefinition ≡ kind = cc in (false, ap (λ k. only (stays k around.outer site)) is)
+  stays_at false zero given kind fits e = let is : RecursionLimit ≡ kind = cc in (false, ap (λ k. only (stays k around.outer site)) is)
+  stays_at false (suc n) None kind fits e =
+      let is : CannotExpand ≡ kind = cc in
+      let b : Bool = world.bursts d site.argument in
+      (b, ap (λ o. bursting_too b (fitted r world unnumbered scope (scoped world.dialect.scope world unnumbered scope n) around site o)) fits
+      ∙ ap (λ k. only (bursting b (stays k around.outer site))) is)
+  stays_at false (suc n) (Some g) kind fits e = absurd (cc e)
 
-      -- the result's own expansion comes in its place
-      pub comes_turn : (g : Forest) → answer world d depth c.argument ≡ Ok g → Adds Has old new (found (key_at f c) (Some d) (searched world scope (depth - 1) (Some (unwrap_or outer c.name.span)) g))
-          → Turn Has (searched world scope depth outer) old new f c.rest
-      comes_turn g says adds =
-          known_turn (searched world scope (depth - 1) (Some (unwrap_or outer c.name.span)) g) (world.bursts d c.argument) (comes_is world scope d outer site depth g says).1 adds
+  pub stays_is : (depth : ℕ) (kind : FaultKind) → answer world d depth site.argument ≡ Err kind
+      → (b : Bool) × (of_call (world.broken d) depth ≡ only (bursting b (stays kind around.outer site)))
+  stays_is depth kind e = stays_at (world.broken d) depth (world.fit d site.argument) kind refl e
 
-      -- where the call makes too many tokens, the whole does
-      known_bursts : (of_call world scope d outer site (world.broken d) depth).bursts ≡ true → (searched world scope depth outer f).bursts ≡ true
-      known_bursts much =
-          ap (λ (o : Outcome Numbered). o.bursts) (known_search world scope (deeper_at world scope depth) outer f c d e finds w passed) ∙ or_first _ _ much
+  comes_at : (broken : Bool) (depth : ℕ) (given : Option Forest) (g : Forest) → world.fit d site.argument ≡ given
+      → (if broken then Err BrokenDefinition else answer_at depth given) ≡ Ok g
+      → (0 < depth) × (of_call broken depth ≡ bursting_too (world.bursts d site.argument) (deeper depth g))
+  comes_at true depth given g fits e = absurd (cc e)
+  comes_at false zero given g fits e = absurd (cc e)
+  comes_at false (suc n) None g fits e = absurd (cc e)
+  comes_at false (suc n) (Some h) g fits e =
+      let is : h ≡ g = cc in
+      let b : Bool = world.bursts d site.argument in
+      let at : Around = record around { outer = Some (unwrap_or around.outer site.at) } in
+      let less : n ≡ suc n - 1 = omega arith in (
+        omega arith,
+        ap (λ o. bursting_too b (fitted r world unnumbered scope (scoped world.dialect.scope world unnumbered scope n) around site o)) fits
+            ∙ ap (bursting_too b) (ap (scoped world.dialect.scope world unnumbered scope n at) is ∙ scoped_is world scope n n at g ∙ ap (λ m. searched world scope m at g) less),
+      )
 
-      pub answer_bursts : makes_too_many world d depth c.argument ≡ true → (searched world scope depth outer f).bursts ≡ true
-      answer_bursts much = known_bursts (bursts_is world scope d outer site depth much)
+  pub comes_is : (depth : ℕ) (g : Forest) → answer world d depth site.argument ≡ Ok g
+      → (0 < depth) × (of_call (world.broken d) depth ≡ bursting_too (world.bursts d site.argument) (deeper depth g))
+  comes_is depth g e = comes_at (world.broken d) depth (world.fit d site.argument) g refl e
 
-      pub result_bursts : (g : Forest) → answer world d depth c.argument ≡ Ok g → (searched world scope (depth - 1) (Some (unwrap_or outer c.name.span)) g).bursts ≡ true
-          → (searched world scope depth outer f).bursts ≡ true
-      result_bursts g says much =
-          known_bursts (ap (λ (o : Outcome Numbered). o.bursts) (comes_is world scope d outer site depth g says).1 ∙ or_later _ _ much)
+  bursts_at : (broken : Bool) (n : ℕ) → (not broken && world.bursts d site.argument) ≡ true → (of_call broken (suc n)).outcome.bursts ≡ true
+  bursts_at true n e = absurd (cc e)
+  bursts_at false n e = or_first _ _ e
 
-  -- ---- turn by turn
+  pub bursts_is : (depth : ℕ) → makes_too_many world d depth site.argument ≡ true → (of_call (world.broken d) depth).outcome.bursts ≡ true
+  bursts_is zero e = absurd (cc e)
+  bursts_is (suc n) e = bursts_at (world.broken d) n e
 
-  -- what was added so far, and what a walk has left, make the whole
-  pub record Going (outer : Option Span) (search : Forest → Outcome Numbered) (trees : Forest) (old now : Expanding S) (walk : TreeWalk) : Type 0 where
-    pub done : Outcome Numbered
-    pub adds : Adds Has old now done
-    pub is : search trees ≡ followed_by done (left outer search walk.here (groups_of walk))
+-- a level is left where a result comes
+pub deep : (d : Numbered) (world : World Numbered) (depth : ℕ) (argument g : Forest) → answer world d depth argument ≡ Ok g → 0 < depth
+deep d world depth argument g e =
+    (comes_is world (λ name. None) world.dialect.scope d (record { standing = Argument; outer = None; locals = [] })
+    (record { at = d.definition.name.span; whole = argument; argument = argument }) depth g e).0
 
-  pub going_first : (outer : Option Span) (search : Forest → Outcome Numbered) (trees : Forest) (out : Expanding S) (w : TreeWalk) → w.here ≡ trees → groups_of w ≡ []
-      → Going outer search trees out out w
-  going_first outer search trees out w here groups = record {
-    done = just outer [];
-    adds = adds_just out out outer [] (takes_none Has out.output) refl refl;
-    is = sym (ap (left outer search w.here) groups ∙ followed_nil outer (search w.here) ∙ ap search here);
-  }
+-- ---- what a call finds
 
-  going_on : (outer : Option Span) (search : Forest → Outcome Numbered) (trees : Forest) (first old new : Expanding S) (before after : TreeWalk) (o : Outcome Numbered)
-      → Going outer search trees first old before → Adds Has old new o
-      → left outer search before.here (groups_of before) ≡ followed_by o (left outer search after.here (groups_of after))
-      → Going outer search trees first new after
-  going_on outer search trees first old new before after o g adds is = record {
-    done = followed_by g.done o;
-    adds = adds_more first old new g.done o g.adds adds;
-    is = g.is ∙ ap (followed_by g.done) is ∙ sym (followed_assoc g.done o (left outer search after.here (groups_of after)));
-  }
+module _ (world : World Numbered) (scope : List ℕ → Option Numbered) (depth : ℕ) where
+  module _ (r : ScopeRules) (around : Around) (site : CallSite) (kept : Scoped Numbered) where
+    abbrev looked : Option Numbered → Scoped Numbered
+    looked o = looked_up r world unnumbered scope o (deeper_at world scope depth) around site kept
 
-  -- trees were passed in the innermost group
-  pub turn_more : (outer : Option Span) (search : Forest → Outcome Numbered) (trees : Forest) (first old new : Expanding S) (before after : TreeWalk)
-      → Going outer search trees first old before → Turn Has search old new before.here after.here → groups_of after ≡ groups_of before
-      → Going outer search trees first new after
-  turn_more outer search trees first old new before after g t same =
-      going_on outer search trees first old new before after t.outcome g t.adds
-      (passed_left outer search before.here after.here (groups_of before) t.outcome t.is
-      ∙ ap (λ around. followed_by t.outcome (left outer search after.here around)) (sym same))
+    abbrev noted : List (List ℕ × Option Numbered) → Scoped Numbered → Scoped Numbered
+    noted xs a = record a { outcome = followed_by (looks xs) a.outcome }
 
-  pub turn_less : (search : Forest → Outcome Numbered) (old new : Expanding S) (before after : TreeWalk) → Turn Has search old new before.here after.here → groups_of after ≡ groups_of before
-      → work_of after.here (groups_of after) < work_of before.here (groups_of before)
-  turn_less search old new before after t same = omega (arith, t.less, ap steps_in same)
+    by_local : (o : Option Definition) (key : List ℕ) → at_key r world unnumbered scope o key (deeper_at world scope depth) around site kept
+        ≡ noted (if is_some o then [] else (key, scope key) ∷ []) (looked (or_else (option_map unnumbered o) (scope key)))
+    by_local None key = refl
+    by_local (Some d) key = refl
 
-  module _ (world : World Numbered) (scope : List ℕ → Option Numbered) (depth : ℕ) (outer : Option Span) where
-    -- a step was made, at which no call begins
-    pub step_more : (trees : Forest) (first old new : Expanding S) (before after : TreeWalk) (s : TokenEvent)
-        → Going outer (searched world scope depth outer) trees first old before → call_at before.here ≡ None → call_behind_colons before.here ≡ None
-        → GoesOn before (Some s) after → Adds Has old new (just outer (step_of s ∷ []))
-        → Going outer (searched world scope depth outer) trees first new after
-    step_more trees first old new before after s g no_call no_colons goes adds =
-        going_on outer (searched world scope depth outer) trees first old new before after (just outer (step_of s ∷ [])) g adds
-        (step_left outer (searched world scope depth outer) (is_search world scope (deeper_at world scope depth) outer) before after s goes
-        (λ l is. leaf_search world scope (deeper_at world scope depth) outer before.here after.here l no_call no_colons is))
+    by_path : (path : Path) (name : Ident) → is_open path ≡ true → (let o : Option Definition = if names_alone path then nearest around.locals name.sym else None in
+        at_call r world unnumbered scope (deeper_at world scope depth) around path name site kept
+        ≡ noted (if is_some o then [] else (key_of path name, scope (key_of path name)) ∷ []) (looked (or_else (option_map unnumbered o) (scope (key_of path name)))))
+    by_path bare name e = by_local (nearest around.locals name.sym) name.sym
+    by_path (from_crate root p q) name e = by_local None (key_of (from_crate root p q) name)
+    by_path (other p q) name e = absurd (cc e)
 
-    -- nothing is left
-    pub going_done : (trees : Forest) (first now : Expanding S) (before after : TreeWalk) → Going outer (searched world scope depth outer) trees first now before
-        → GoesOn before None after → Adds Has first now (searched world scope depth outer trees)
-    going_done trees first now before after g ends =
-        let is : searched world scope depth outer trees ≡ g.done =
-        g.is ∙ ap (followed_by g.done) (nothing_left outer (searched world scope depth outer) (is_search world scope (deeper_at world scope depth) outer) before after ends)
-        ∙ followed_nil outer g.done in
-        subst (Adds Has first now) (sym is) g.adds
+  -- a call's three forms
+  abbrev pub site_of : (f : Forest) (c : Call) (b : Bool) → IsCall f c b → CallSite
+  site_of f c b k = record { at = c.name.span; whole = whole_call k.path c.name k.bang k.brackets c.argument; argument = c.argument }
 
-    -- what makes too many tokens in what is left does so in the whole
-    pub going_bursts : (trees : Forest) (first now : Expanding S) (w : TreeWalk) → Going outer (searched world scope depth outer) trees first now w
-        → (searched world scope depth outer w.here).bursts ≡ true → (searched world scope depth outer trees).bursts ≡ true
-    going_bursts trees first now w g much = ap (λ (o : Outcome Numbered). o.bursts) g.is ∙ or_later g.done.bursts _ (or_first _ _ much)
+  abbrev pub kept_of : (r : ScopeRules) (around : Around) (f : Forest) (c : Call) (b : Bool) → IsCall f c b → Scoped Numbered
+  kept_of r around f c b k = kept_call r world unnumbered scope (searched world scope depth) around k.path c.name k.bang k.brackets c.argument
 
--- ---- a whole tree
+  -- what comes of a call is what its name finds, behind its look-up
+  resolved_call : (r : ScopeRules) (around : Around) (f : Forest) (c : Call) (k : IsCall f c true)
+      → called_in world scope depth r around k.path c.name k.bang k.brackets c.argument
+      ≡ noted r around (site_of f c true k) (kept_of r around f c true k) (lookups_of scope around.locals f c)
+      (looked r around (site_of f c true k) (kept_of r around f c true k) (resolved scope around.locals f c))
+  resolved_call r around f c k =
+      let site : CallSite = site_of f c true k in
+      let kept : Scoped Numbered = kept_of r around f c true k in
+      let at : Bool → List ℕ → Scoped Numbered = λ b key. (
+        let o : Option Definition = if b then nearest around.locals c.name.sym else None in
+        noted r around site kept (if is_some o then [] else (key, scope key) ∷ []) (looked r around site kept (or_else (option_map unnumbered o) (scope key)))) in
+      by_path r around site kept k.path c.name k.is_so
+      ∙ ap (λ b. at b (key_of k.path c.name)) (sym k.alone)
+      ∙ ap (at (is_bare f)) (k.key refl)
 
-module _ (world : World Numbered) (scope : List ℕ → Option Numbered) (depth : ℕ) (tree : Forest) where
-  -- all was added to what had no faults and no look-ups
-  pub piece_expands : {S : Type 0} (Has : S → List PlacedStep → Type 0) (old new : Expanding S) → old.faults.items ≡ [] → old.finds.items ≡ []
-      → Adds Has old new (searched world scope depth None tree) → Expands Has old.output new (expansion world scope depth None tree)
-  piece_expands Has old new no_faults no_finds adds =
-      let same = sym (expansion_is world scope depth None tree) in record {
-        steps = subst (λ (o : Outcome Numbered). TakesMore Has old.output new.output o.steps) same adds.steps;
-        faults = adds.faults ∙ ap (λ l. l ++ (searched world scope depth None tree).faults) no_faults ∙ ap (λ (o : Outcome Numbered). o.faults) same;
-        finds = adds.finds ∙ ap (λ l. map find_of l ++ (searched world scope depth None tree).finds) no_finds ∙ ap (λ (o : Outcome Numbered). o.finds) same;
-      }
+  behind_is : (f : Forest) (c : Call) (b : Bool) (k : IsCall f c b) → begun_behind c.from_group ≡ after_group Other k.brackets.kind
+  behind_is f c b k = ap begun_behind k.group_is
 
-  -- a tree without calls stays as it is
-  pub quiet_parts : searched world scope depth None tree ≡ just None (walk tree)
-      → record { steps = placed None (walk tree); faults = []; finds = [] } ≡ parts_of (expansion world scope depth None tree)
-  quiet_parts e = ap parts_of (sym e ∙ sym (expansion_is world scope depth None tree))
+  module _ (outer : Option Span) (p : Place) (plain : IsPlain world scope depth world.dialect.scope p.begun p.here) where
+    abbrev rules : ScopeRules
+    rules = world.dialect.scope
 
-  pub piece_bursts : (searched world scope depth None tree).bursts ≡ true → (expansion world scope depth None tree).bursts ≡ true
-  piece_bursts much = ap (λ (o : Outcome Numbered). o.bursts) (expansion_is world scope depth None tree) ∙ much
+    abbrev around : Around
+    around = here_in world scope depth outer p.standing p.locals
 
--- ---- trees without a call
+    abbrev next : List Definition → Left
+    next = groups_left world scope depth outer p.groups
 
--- where what a walk has left has no call, neither have the trees
-abbrev pub QuietSoFar : Forest → TreeWalk → Type 0
-QuietSoFar trees w =
-    (world : World Numbered) (scope : List ℕ → Option Numbered) (depth : ℕ) (outer : Option Span)
-    → left outer (searched world scope depth outer) w.here (groups_of w) ≡ left outer (λ f. just outer (walk f)) w.here (groups_of w)
-    → searched world scope depth outer trees ≡ just outer (walk trees)
+    -- the place behind a call, once it has defined these
+    abbrev pub behind_call : Call → List Definition → Place
+    behind_call c ds = record p { here = c.rest; begun = begun_behind c.from_group; locals = ds ++ p.locals }
 
-pub quiet_first : (trees : Forest) (w : TreeWalk) → w.here ≡ trees → groups_of w ≡ [] → QuietSoFar trees w
-quiet_first trees w here groups world scope depth outer same =
-    sym (followed_nil outer (searched world scope depth outer trees))
-    ∙ ap (λ f. left outer (searched world scope depth outer) f []) (sym here) ∙ ap (left outer (searched world scope depth outer) w.here) (sym groups)
-    ∙ same
-    ∙ ap (left outer (λ f. just outer (walk f)) w.here) groups ∙ ap (λ f. left outer (λ g. just outer (walk g)) f []) here
-    ∙ followed_nil outer (just outer (walk trees))
+    -- what is left at a call: what comes of it, and what is left behind it
+    call_left : (c : Call) (b : Bool) (k : IsCall p.here c b)
+        → (let a : Scoped Numbered = called_in world scope depth rules around k.path c.name k.bang k.brackets c.argument in
+        all_left world scope depth outer p ≡ then_left a.outcome (all_left world scope depth outer (behind_call c a.defines)))
+    call_left c b k =
+        let a : Scoped Numbered = called_in world scope depth rules around k.path c.name k.bang k.brackets c.argument in
+        let is = joined_call p.here c b k in
+        passed_in world scope depth outer p.begun (after_group Other k.brackets.kind) p.standing p.locals p.here c.rest a next
+        (ap (list_left world scope depth rules p.begun around) is
+        ∙ left_call world scope depth rules p.begun around k.path c.name k.bang k.brackets c.argument c.rest k.of_call
+        (λ u v. subst (λ f. IsAhead f None) is (plain u v)))
+        ∙ ap (λ t. then_left a.outcome (in_list world scope depth outer t p.standing (a.defines ++ p.locals) c.rest next)) (sym (behind_is p.here c b k))
 
-pub quiet_more : (trees : Forest) (before after : TreeWalk) (s : TokenEvent) → QuietSoFar trees before → call_at before.here ≡ None → call_behind_colons before.here ≡ None
-    → GoesOn before (Some s) after → QuietSoFar trees after
-quiet_more trees before after s quiet no_call no_colons goes world scope depth outer same =
-    quiet world scope depth outer (
-    step_left outer (searched world scope depth outer) (is_search world scope (deeper_at world scope depth) outer) before after s goes
-    (λ l is. leaf_search world scope (deeper_at world scope depth) outer before.here after.here l no_call no_colons is)
-    ∙ ap (followed_by (just outer (step_of s ∷ []))) same
-    ∙ sym (step_left outer (λ f. just outer (walk f)) (walk_search outer) before after s goes (λ l first. ap (λ f. just outer (walk f)) first)))
+    visible : {c : Call} {b : Bool} → (k : IsCall p.here c b) → is_visible k.brackets.kind ≡ true
+    visible k = visible_call k.path k.bang k.brackets k.of_call
 
-pub quiet_done : (trees : Forest) (before after : TreeWalk) → QuietSoFar trees before → GoesOn before None after
-    → (world : World Numbered) (scope : List ℕ → Option Numbered) (depth : ℕ) (outer : Option Span) → searched world scope depth outer trees ≡ just outer (walk trees)
-quiet_done trees before after quiet ends world scope depth outer =
-    quiet world scope depth outer (
-    nothing_left outer (searched world scope depth outer) (is_search world scope (deeper_at world scope depth) outer) before after ends
-    ∙ sym (nothing_left outer (λ f. just outer (walk f)) (walk_search outer) before after ends))
+    -- a call that stays is kept up to its group, which is searched as an argument
+    kept_is : (c : Call) (b : Bool) (k : IsCall p.here c b) (xs : List (List ℕ × Option Numbered))
+        → (let a : Scoped Numbered = kept_of rules around p.here c b k in
+        then_left (followed_by (looks xs) a.outcome) (all_left world scope depth outer (behind_call c []))
+        ≡ then_left (looks xs) (kept_left world scope depth outer (before_group k.path c.name k.bang) c.from_group p))
+    kept_is c b k xs =
+        let before : Outcome Numbered = just outer (walk (before_group k.path c.name k.bang)) in
+        let a : Scoped Numbered = searched world scope depth (record around { standing = Argument }) c.argument in
+        let g : Scoped Numbered = in_brackets outer k.brackets a in
+        let later : List Definition → Left = λ ls. in_list world scope depth outer (after_group Other k.brackets.kind) p.standing ls c.rest next in
+        ap (λ t. then_left (followed_by (looks xs) (followed_by before g.outcome)) (in_list world scope depth outer t p.standing p.locals c.rest next)) (behind_is p.here c b k)
+        ∙ ap (λ v. then_left (followed_by (looks xs) (followed_by before g.outcome)) (later ((if v then [] else a.defines) ++ p.locals))) (sym (visible k))
+        ∙ then_assoc (looks xs) (followed_by before g.outcome) (later (g.defines ++ p.locals))
+        ∙ ap (then_left (looks xs)) (then_assoc before g.outcome (later (g.defines ++ p.locals)))
+        ∙ ap (λ f. then_left (looks xs) (kept_left world scope depth outer (before_group k.path c.name k.bang) f p)) (sym k.group_is)
+
+    -- it finds nothing
+    pub unknown_left : (c : Call) (k : IsCall p.here c true) → resolved scope p.locals p.here c ≡ None
+        → all_left world scope depth outer p
+        ≡ then_left (looks (lookups_of scope p.locals p.here c)) (kept_left world scope depth outer (before_group k.path c.name k.bang) c.from_group p)
+    unknown_left c k none =
+        let kept : Scoped Numbered = kept_of rules around p.here c true k in
+        let xs : List (List ℕ × Option Numbered) = lookups_of scope p.locals p.here c in
+        call_left c true k
+        ∙ ap (λ (x : Scoped Numbered). then_left x.outcome (all_left world scope depth outer (behind_call c x.defines)))
+        (resolved_call rules around p.here c k ∙ ap (λ o. noted rules around (site_of p.here c true k) kept xs (looked rules around (site_of p.here c true k) kept o)) none)
+        ∙ kept_is c true k xs
+
+    -- or it is none, for the `::` before it
+    pub colons_left : (c : Call) (k : IsCall p.here c false)
+        → all_left world scope depth outer p ≡ kept_left world scope depth outer (before_group k.path c.name k.bang) c.from_group p
+    colons_left c k =
+        call_left c false k
+        ∙ ap (λ (x : Scoped Numbered). then_left x.outcome (all_left world scope depth outer (behind_call c x.defines))) (not_open k.path c.name (site_of p.here c false k) k.is_so)
+        ∙ kept_is c false k []
+      where
+        kept : Scoped Numbered
+        kept = kept_of rules around p.here c false k
+
+        not_open : (path : Path) (name : Ident) (site : CallSite) → is_open path ≡ false
+            → at_call rules world unnumbered scope (deeper_at world scope depth) around path name site kept ≡ kept
+        not_open bare name site e = absurd (cc e)
+        not_open (from_crate root p q) name site e = absurd (cc e)
+        not_open (other p q) name site e = refl
+
+    -- it finds a definition
+    known_left : (c : Call) (k : IsCall p.here c true) (d : Numbered) → resolved scope p.locals p.here c ≡ Some d → (a : Scoped Numbered)
+        → unbroken rules world unnumbered scope d (world.broken d) (deeper_at world scope depth) around (site_of p.here c true k) ≡ a
+        → all_left world scope depth outer p
+        ≡ then_left (followed_by (looks (lookups_of scope p.locals p.here c)) a.outcome) (all_left world scope depth outer (behind_call c a.defines))
+    known_left c k d finds a is =
+        let kept : Scoped Numbered = kept_of rules around p.here c true k in
+        let xs : List (List ℕ × Option Numbered) = lookups_of scope p.locals p.here c in
+        call_left c true k
+        ∙ ap (λ (x : Scoped Numbered). then_left x.outcome (all_left world scope depth outer (behind_call c x.defines)))
+        (resolved_call rules around p.here c k ∙ ap (λ o. noted rules around (site_of p.here c true k) kept xs (looked rules around (site_of p.here c true k) kept o)) finds
+        ∙ ap (noted rules around (site_of p.here c true k) kept xs) is)
+
+    -- and stays for a fault
+    pub stays_left : (c : Call) (k : IsCall p.here c true) (d : Numbered) → resolved scope p.locals p.here c ≡ Some d → (kind : FaultKind) → answer world d depth c.argument ≡ Err kind
+        → (b : Bool) × (all_left world scope depth outer p
+        ≡ then_left (followed_by (looks (lookups_of scope p.locals p.here c)) (bursting b (stays kind outer (site_of p.here c true k)))) (all_left world scope depth outer (behind_call c [])))
+    stays_left c k d finds kind says =
+        let is = stays_is world scope rules d around (site_of p.here c true k) depth kind says in
+        (is.0, known_left c k d finds (only (bursting is.0 (stays kind outer (site_of p.here c true k)))) is.1)
+
+    -- or its result comes in its place
+    pub comes_left : (c : Call) (k : IsCall p.here c true) (d : Numbered) → resolved scope p.locals p.here c ≡ Some d → (g : Forest) → answer world d depth c.argument ≡ Ok g
+        → (let a : Scoped Numbered = deeper world scope rules d around (site_of p.here c true k) depth g in
+        all_left world scope depth outer p
+        ≡ then_left (followed_by (looks (lookups_of scope p.locals p.here c)) (bursting (world.bursts d c.argument) a.outcome)) (all_left world scope depth outer (behind_call c a.defines)))
+    comes_left c k d finds g says =
+        let site : CallSite = site_of p.here c true k in
+        known_left c k d finds (bursting_too world scope rules d around site (world.bursts d c.argument) (deeper world scope rules d around site depth g))
+        (comes_is world scope rules d around site depth g says).1
+
+    -- where the call makes too many tokens, the whole does
+    pub answer_bursts : (c : Call) (k : IsCall p.here c true) (d : Numbered) → resolved scope p.locals p.here c ≡ Some d → makes_too_many world d depth c.argument ≡ true
+        → (all_left world scope depth outer p).0.bursts ≡ true
+    answer_bursts c k d finds much =
+        ap (λ (l : Left). l.0.bursts) (known_left c k d finds (unbroken rules world unnumbered scope d (world.broken d) (deeper_at world scope depth) around (site_of p.here c true k)) refl)
+        ∙ or_first _ _ (bursts_is world scope rules d around (site_of p.here c true k) depth much)
+
+    pub result_bursts : (c : Call) (k : IsCall p.here c true) (d : Numbered) → resolved scope p.locals p.here c ≡ Some d → (g : Forest) → answer world d depth c.argument ≡ Ok g
+        → (deeper world scope rules d around (site_of p.here c true k) depth g).outcome.bursts ≡ true
+        → (all_left world scope depth outer p).0.bursts ≡ true
+    result_bursts c k d finds g says much =
+        ap (λ (l : Left). l.0.bursts) (comes_left c k d finds g says) ∙ or_first _ _ (or_later (world.bursts d c.argument) _ much)

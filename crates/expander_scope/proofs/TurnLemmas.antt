@@ -1,6 +1,12 @@
 -- What one turn of the search for calls adds to the output.
-use Rattle.std.proofs.Common.{◌≡◌, ℕ, ◌<◌, List, [], ◌∷◌, refl, sym, ap, ◌∙◌, arith, Bool, true, false, inl, inr, if◌then◌else◌}
-use Rattle.std.specs.Prelude.{Option, Some, None, ◌⊎◌}
+use Rattle.std.proofs.Common.{◌≡◌, ℕ, ◌<◌, List, [], ◌∷◌, refl, sym, ap, ◌∙◌, arith, Bool, true, false, true-eqb, inl, inr, if◌then◌else◌}
+use Rattle.std.specs.Prelude.{Option, Some, None, ◌⊎◌, ◌&&◌, not}
+use Rattle.std.proofs.lemmas.Bool.{and_parts}
+use Rattle.tt.specs.Glued.{is_alone}
+use Rattle.bridge.specs.Text.{is_char, is_visible}
+use Rattle.textual_scope.specs.FromLeft.{AreOfCall}
+use Rattle.textual_scope.proofs.LeftLemmas.{call_before}
+use Rattle.expander_scope.specs.Turns.{is_bare}
 use Rattle.tt_data.proofs.ForestLemmas.{size-joined}
 use Rattle.tt.proofs.Steps.{joined-left}
 use Rattle.tt_data.specs.Forest.{Forest, leaf, group, joined, size}
@@ -13,11 +19,11 @@ use Rattle.tt_data.specs.declared.leaf.Punct.{Punct}
 use Rattle.tt_data.specs.declared.span.Span.{Span}
 use Rattle.expander_model.specs.declared.call.Call.{Call}
 use Rattle.expander_model.specs.CallSteps.{bare_call, call_behind_colons, crate_call, call_at, foreign_root, key_at, key_with}
-use Rattle.expander_model.specs.Calls.{Path, bare, from_crate, other, call, is_foreign, key_behind, key_of, marked}
+use Rattle.expander_model.specs.Calls.{Path, bare, from_crate, other, call, is_bang_group, is_colons, is_foreign, key_behind, key_of, marked}
 use Rattle.small_grammar.specs.Text.{◌>>=◌, ◌>>◌}
 use Rattle.expander_model.specs.Definitions.{or_else}
 use Rattle.expander_model.specs.Expansion.{World, Outcome, Deeper, CallSite, just, followed_by, grouped, found, looked_up, unbroken, at_call, before_group, whole_call, search_calls}
-use Rattle.expander_scope.proofs.CallLemmas.{IsBare, IsBehind, IsOfCrate, is_bare, is_behind, is_of_crate, marked_bare, marked_behind, marked_of_crate, no_call}
+use Rattle.expander_scope.proofs.CallLemmas.{IsBare, IsBehind, IsOfCrate, is_bare as bare_is, is_behind, is_of_crate, marked_bare, marked_behind, marked_of_crate, no_call}
 use Rattle.expander_scope.proofs.MarkLemmas.{unmarked-marked}
 use Rattle.expander_scope.proofs.OutcomeLemmas.{IsSearch, followed_assoc}
 
@@ -27,6 +33,18 @@ use Rattle.expander_scope.proofs.OutcomeLemmas.{IsSearch, followed_assoc}
 abbrev pub is_open : Path → Bool
 is_open (other p q) = false
 is_open _ = true
+
+-- no root before the name
+abbrev pub names_alone : Path → Bool
+names_alone bare = true
+names_alone _ = false
+
+bang_alone : (p : Punct) (d : Delimiter) → is_bang_group p d ≡ true → is_char "!" p ≡ true
+bang_alone p d h = (and_parts (is_char "!" p) (is_visible d.kind) h).0
+
+colon_not_alone : (p q : Punct) → is_colons p q ≡ true → is_char "!" p ≡ false
+colon_not_alone p q h =
+    let e : p.char ≡ 58 = true-eqb p.char 58 (sym (and_parts (is_char ":" p) (is_char ":" q && not (is_alone p.spacing)) h).0) in rw e refl
 
 pub record IsCall (f : Forest) (c : Call) (open_path : Bool) : Type 0 where
   pub path : Path
@@ -38,6 +56,8 @@ pub record IsCall (f : Forest) (c : Call) (open_path : Bool) : Type 0 where
   pub group_is : c.from_group ≡ group brackets c.argument c.rest
   pub is_so : is_open path ≡ open_path
   pub key : open_path ≡ true → key_of path c.name ≡ key_at f c
+  pub of_call : AreOfCall path bang brackets
+  pub alone : is_bare f ≡ names_alone path
 
 -- what it is looked up by
 
@@ -71,6 +91,8 @@ bare_is_call f c b = record {
   group_is = b.group_is;
   is_so = refl;
   key = λ e. bare_key f c b;
+  of_call = b.test;
+  alone = ap is_bare b.is ∙ bang_alone b.bang b.brackets b.test;
 }
 
 behind_is_call : (f : Forest) (c : Call) → IsBehind f c → IsCall f c false
@@ -87,6 +109,8 @@ behind_is_call f c b =
       group_is = b.call.group_is;
       is_so = refl;
       key = λ e. absurd (cc);
+      of_call = (b.call.test, b.colons);
+      alone = ap is_bare b.is;
     }
 
 crate_is_call : (f : Forest) (c : Call) → IsOfCrate f c → IsCall f c true
@@ -103,6 +127,8 @@ crate_is_call f c b =
       group_is = b.call.call.group_is;
       is_so = refl;
       key = λ e. crate_key f c b;
+      of_call = (b.call.call.test, b.call.colons, b.test);
+      alone = ap is_bare (b.is ∙ ap (leaf (as_leaf.Ident b.crate)) b.call.is) ∙ colon_not_alone b.call.first b.call.second b.call.colons;
     }
 
 first_or : (a b : Option Call) (c : Call) → or_else a b ≡ Some c → (a ≡ Some c) ⊎ (b ≡ Some c)
@@ -114,10 +140,25 @@ neither None b e = (refl, e)
 neither (Some x) b e = cc
 
 pub call_is_call : (f : Forest) (c : Call) → call_at f ≡ Some c → IsCall f c true
-call_is_call f c e = elim (first_or (crate_call f) (bare_call f) c e) [ inl h ↦ crate_is_call f c (is_of_crate f c h) | inr h ↦ bare_is_call f c (is_bare f c h) ]
+call_is_call f c e = elim (first_or (crate_call f) (bare_call f) c e) [ inl h ↦ crate_is_call f c (is_of_crate f c h) | inr h ↦ bare_is_call f c (bare_is f c h) ]
 
 pub colons_is_call : (f : Forest) (c : Call) → call_behind_colons f ≡ Some c → IsCall f c false
 colons_is_call f c e = behind_is_call f c (is_behind f c e)
+
+-- the tokens of a call, and the trees behind it
+pub joined_call : (f : Forest) (c : Call) (b : Bool) (k : IsCall f c b) → f ≡ call_before c.name k.bang k.brackets c.argument k.path c.rest
+joined_call f c b k = k.whole ∙ go k.path
+  where
+    go : (path : Path) → joined (whole_call path c.name k.bang k.brackets c.argument) c.rest ≡ call_before c.name k.bang k.brackets c.argument path c.rest
+    go bare = refl
+    go (from_crate root p q) = refl
+    go (other p q) = refl
+
+-- its group is visible
+pub visible_call : (path : Path) (bang : Punct) (d : Delimiter) → AreOfCall path bang d → is_visible d.kind ≡ true
+visible_call bare bang d h = (and_parts (is_char "!" bang) (is_visible d.kind) h).1
+visible_call (other p q) bang d h = (and_parts (is_char "!" bang) (is_visible d.kind) h.0).1
+visible_call (from_crate root p q) bang d h = (and_parts (is_char "!" bang) (is_visible d.kind) h.0).1
 
 -- ---- what is passed of a call
 

@@ -1,15 +1,18 @@
--- One turn of the search for calls in a tree with piece-relative spans: what it adds to the output
--- for the trees that it passes.
+-- The search of lists for calls, in a tree with piece-relative spans, and what it adds to an output.
 use Rattle.std.specs.Prelude.{◌≡◌, ◌<◌, ℕ, zero, suc, Bool, false, ◌&&◌, not, List, ◌++◌, map, Option, Some, None, Result, Ok, Err, if◌then◌else◌}
 use Rattle.tt_data.specs.Forest.{Forest, size}
-use Rattle.tt_data.specs.declared.span.Span.{Span}
 use Rattle.tt.specs.Tops.{Top}
 use Rattle.expander_scope.specs.declared.expand.Expanding.{Expanding}
 use Rattle.expander_model.specs.declared.fault.FaultKind.{FaultKind}
 use Rattle.expander_model.specs.declared.fault.FaultKind.TheVariants.{CannotExpand, BrokenDefinition, RecursionLimit}
-use Rattle.expander_model.specs.Calls.{marked}
-use Rattle.expander_model.specs.Expansion.{World, Outcome, PlacedStep, Deeper, followed_by, search_calls, expansion}
-use Rattle.expander_model.specs.Held.{Numbered, numbered_world}
+use Rattle.expander_model.specs.Expansion.{World, Outcome, PlacedStep}
+use Rattle.expander_model.specs.Scoping.{Around, Search, scoped, search_list}
+use Rattle.expander_model.specs.declared.dialect.Standing.{Standing}
+use Rattle.expander_scope.specs.LocalTables.{locals_of}
+use Rattle.expander_scope.specs.declared.locals.Locals.{Locals}
+use Rattle.tt_data.specs.declared.span.Span.{Span}
+use Rattle.expander_model.specs.declared.dialect.Dialect.{Dialect}
+use Rattle.expander_model.specs.Held.{Numbered, numbered_world, unnumbered}
 use Rattle.expander_model.specs.World.{world}
 use Rattle.mbe.specs.Grammar.{Grammar}
 use Rattle.expander_scope.specs.ScopeTable.{scope_in}
@@ -25,14 +28,16 @@ answer_at (suc n) None = Err CannotExpand
 answer_at (suc n) (Some result) = Ok result
 
 module _ (world : World Numbered) where
-  -- how results are expanded with so many levels left: not at all with none
-  abbrev pub deeper_at : (List ℕ → Option Numbered) → ℕ → Deeper Numbered
+  -- how results are searched with so many levels left: not at all with none
+  abbrev pub deeper_at : (List ℕ → Option Numbered) → ℕ → Option (Search Numbered)
   deeper_at scope zero = None
-  deeper_at scope (suc n) = Some (expansion world scope n)
+  deeper_at scope (suc n) = Some (scoped world.dialect.scope world unnumbered scope n)
 
-  -- the expansion of the remaining trees of a list
-  abbrev pub searched : (List ℕ → Option Numbered) → ℕ → Option Span → Forest → Outcome Numbered
-  searched scope depth outer f = search_calls world scope (deeper_at scope depth) outer (marked f)
+  -- the search of a list with so many levels left
+  abbrev pub searched : (List ℕ → Option Numbered) → ℕ → Search Numbered
+  searched scope depth around f =
+      search_list world.dialect.scope world unnumbered scope (deeper_at scope depth)
+      (suc (size f)) around f
 
   -- the result of a call with so many levels left, or the fault for which the call stays
   abbrev pub answer : Numbered → ℕ → Forest → Result Forest FaultKind
@@ -43,9 +48,19 @@ module _ (world : World Numbered) where
   makes_too_many d zero argument = false
   makes_too_many d (suc n) argument = not (world.broken d) && world.bursts d argument
 
--- the expansion of the remaining trees of a list by this grammar, in the scope of this table
-abbrev pub searched_under : Grammar → table.Scope → ℕ → Option Span → Forest → Outcome Numbered
-searched_under grammar s depth outer f = searched (numbered_world (world grammar s.edition)) (scope_in s) depth outer f
+-- what a definition means by this grammar and dialect, in the edition of this table
+abbrev pub world_under : Grammar → Dialect → table.Scope → World Numbered
+world_under grammar dialect s = numbered_world (world grammar s.edition dialect)
+
+-- the search of a list by this grammar and dialect, in the scope of this table
+abbrev pub searched_under : Grammar → Dialect → table.Scope → ℕ → Search Numbered
+searched_under grammar dialect s depth around f =
+    searched (world_under grammar dialect s) (scope_in s) depth around f
+
+-- a list with these definitions around
+abbrev pub around_in : Standing → Option Span → Locals → Around
+around_in standing outer locals =
+    record { standing = standing; outer = outer; locals = locals_of locals }
 
 -- the trees of a result, or the fault
 abbrev pub trees_of : Result Top FaultKind → Result Forest FaultKind
@@ -59,13 +74,6 @@ module _ {S : Type 0} (Has : S → List PlacedStep → Type 0) where
     pub steps : TakesMore Has old.output new.output o.steps
     pub faults : new.faults.items ≡ old.faults.items ++ o.faults
     pub finds : map find_of new.finds.items ≡ map find_of old.finds.items ++ o.finds
-
-  -- the search goes on from `f` to the shorter list `g`, and adds what it gives for the trees passed
-  pub record Turn (search : Forest → Outcome Numbered) (old new : Expanding S) (f g : Forest) : Type 0 where
-    pub outcome : Outcome Numbered
-    pub is : search f ≡ followed_by outcome (search g)
-    pub adds : Adds old new outcome
-    pub less : size g < size f
 
   -- a sink has taken an expansion result's events after all earlier ones; its faults and look-ups are these
   pub record Expands (old : S) (new : Expanding S) (o : Outcome Numbered) : Type 0 where

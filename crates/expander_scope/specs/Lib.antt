@@ -10,6 +10,10 @@ pub mod OffsetTables
 pub mod ScopeTable
 pub mod Sinks
 pub mod Expanding
+pub mod NameStacks
+pub mod LocalTables
+pub mod ListsLeft
+pub mod Turns
 pub mod DefinitionIds
 pub mod Interning
 pub mod DefinitionTexts

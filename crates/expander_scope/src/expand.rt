@@ -1,30 +1,43 @@
 //! Expands a tree with piece-relative spans: expands its calls from left to right, and searches
 //! each result for further calls.
-ghost use Rattle.std.specs.Prelude.{◌≡◌, ◌-◌, ◌<◌, ℕ, ◌++◌, ◌∷◌, [], List, map, true, IfOk, OnOk, Option, None, Err, option_map};
+ghost use Rattle.std.specs.Prelude.{◌≡◌, ◌-◌, ◌<◌, ℕ, ◌++◌, ◌∷◌, [], List, length, map, true, false, IfOk, IfNone, IfSome, IsOkUnless, OnOk, Option, Some, None, Err, is_some, option_map};
 ghost use Rattle.mbe.specs.Bursts as made_by;
 ghost use Rattle.mbe.specs.Macros.{rules_of};
 ghost use Rattle.mbe.specs.Markers.{is_name};
 ghost use Rattle.mbe_rules.specs.declared.macro_call_style.MacroCallStyle.TheVariants as style;
-ghost use Rattle.tt_data.specs.Forest.{Forest, joined};
+ghost use Rattle.tt_data.specs.Forest.{Forest, empty, joined};
 ghost use Rattle.tt_data.specs.Walk.{walk};
-ghost use Rattle.expander_model.specs.CallSteps.{call_at};
-ghost use Rattle.expander_model.specs.Expansion.{World, just, placed};
-ghost use Rattle.expander_scope.specs.Editions.{IsRead};
-ghost use Rattle.expander_model.specs.Held.{Numbered, numbered_world};
-ghost use Rattle.expander_scope.specs.ScopeTable.{AreRead, expanded_under};
 ghost use Rattle.tt_data.specs.declared.edition.Edition.{Edition};
 ghost use Rattle.tt_data.specs.declared.span.Span.{Span};
-ghost use Rattle.expander_scope.specs.Outcomes.{find_of, numbered_of_known, parts_for, parts_of};
-ghost use Rattle.expander_scope.specs.Expanding.{Adds, Expands, Turn, answer, makes_too_many, searched, searched_under, trees_of};
+ghost use Rattle.tt_data.specs.fault.TtFault.TheVariants.{Memory};
+ghost use Rattle.expander_model.specs.Calls.{marked};
+ghost use Rattle.expander_model.specs.CallSteps.{call_at};
+ghost use Rattle.expander_model.specs.Definitions.{Definition, definition_of};
+ghost use Rattle.expander_model.specs.Expansion.{Deeper, World, just, placed, search_calls};
+ghost use Rattle.expander_model.specs.Held.{Numbered, numbered_world, unnumbered};
+ghost use Rattle.expander_model.specs.Scoping.{defined};
 ghost use Rattle.expander_model.specs.World.{fit_of, made, world};
+ghost use Rattle.textual_scope.specs.Keywords.{HasNoKeyword};
+ghost use Rattle.expander_scope.specs.Editions.{IsRead};
+ghost use Rattle.expander_scope.specs.Expanding.{Adds, Expands, answer, around_in, makes_too_many, searched_under, trees_of, world_under};
+ghost use Rattle.expander_scope.specs.ListsLeft.{IsAhead, Place};
+ghost use Rattle.expander_scope.specs.LocalTables.{locals_of};
+ghost use Rattle.expander_scope.specs.Outcomes.{find_of, numbered_of_known, parts_for, parts_of};
+ghost use Rattle.expander_scope.specs.ScopeTable.{AreRead, expanded_under, scope_in};
+ghost use Rattle.expander_scope.specs.Turns.{BeginsWithGroup, Goes, GoesUnder, IsAt, IsPassable, IsPlainAhead, begun_behind, is_bare, kept_left, left_ahead, left_under, local_at, lookups_of, resolved};
 
 use crate::event_sink::{EventSink, take_walk};
+use crate::list_walk::{ListWalk, definition_ahead, standing_in};
+use crate::locals::Locals;
 use crate::macro_def::MacroDef;
 use crate::outcome::{Event, NameLookup, Outcome};
 use crate::scope::Scope;
 use bridge::parts::TokenEvent;
 use expander_model::call::{Beginning, Call, beginning_of, call_at, call_behind_colons, key_at};
-use expander_model::fault::FaultKind;
+use expander_model::begun::Begun;
+use expander_model::definition::definition_of;
+use expander_model::dialect::{Dialect, ScopeRules, Standing};
+use expander_model::fault::{FaultKind, is_definition_word};
 use expander_model::tree_walk::TreeWalk;
 use mbe::{DeclarativeMacro, FragmentGrammar, MacroCallStyle};
 use std::alloc::{AllocError, Global};
@@ -44,6 +57,8 @@ pub struct Environment<'a, G> {
     pub grammar: &'a G,
     /// Resolves names.
     pub scope: &'a Scope,
+    /// By which rules lists are searched.
+    pub dialect: Dialect,
     /// How many levels of calls may still be expanded.
     pub depth: u8,
 }
@@ -58,6 +73,7 @@ impl<'a, G> Environment<'a, G> {
             alloc: self.alloc,
             grammar: self.grammar,
             scope: self.scope,
+            dialect: self.dialect,
             depth: self.depth - 1,
         }
     }
@@ -170,11 +186,11 @@ fn answer<G: FragmentGrammar>(
 ) -> Result<Result<TopSubtree, FaultKind>, TtFault>
     ensures given { (edition : Edition) → IsRead edition known.now →
         IfOk result (λ given. trees_of given
-        ≡ answer (numbered_world (world (G.answer env.now.grammar.now) edition))
+        ≡ answer (numbered_world (world (G.answer env.now.grammar.now) edition env.now.dialect))
         (numbered_of_known known.now) env.now.depth argument.now) }
     ensures deep { IfOk result (λ given. OnOk given (0 < env.now.depth)) }
     ensures tokens { (edition : Edition) → IsRead edition known.now → result ≡ Err TtFault.Tokens →
-        makes_too_many (numbered_world (world (G.answer env.now.grammar.now) edition))
+        makes_too_many (numbered_world (world (G.answer env.now.grammar.now) edition env.now.dialect))
         (numbered_of_known known.now) env.now.depth argument.now ≡ true }
 {
     if known.rules.err().is_some() {
@@ -187,95 +203,323 @@ fn answer<G: FragmentGrammar>(
     Ok(result.ok_or(FaultKind::CannotExpand))
 }
 
+// An expansion so far, and the definitions of the lists around the present place.
+#[derive(Drop)]
+struct Search<S> {
+    out: Expanding<S>,
+    locals: Locals,
+}
+
+// Whether a call that the trees begin with is a name alone, without a root before it.
+fn is_bare(trees: &TtIter<'_>) -> bool
+    ensures { result ≡ is_bare trees.now }
+{
+    let Some((_, after_name)) = trees.lent_ident() else {
+        return false;
+    };
+    match after_name.first_punct() {
+        Some((punct, _)) => punct.char == '!',
+        None => false,
+    }
+}
+
+// The definition that a call finds in the lists around it: the nearest of its name, if no root is
+// before it.
+fn local_of(
+    locals: &Locals,
+    trees: &TtIter<'_>,
+    call: &Call<'_>,
+) -> Result<Option<Rc<MacroDef>>, AllocError>
+    ensures found { IfOk result (λ given. option_map (λ k. numbered_of_known k.value) given
+        ≡ option_map unnumbered (local_at (locals_of locals.now) trees.now call.now)) }
+    ensures rules { IfOk result (λ given. IfSome given (λ k. IsRead locals.now.edition k.value)) }
+{
+    if locals.is_empty() || !is_bare(trees) {
+        return Ok(None);
+    }
+    match locals.find(&call.name.sym) {
+        None => Ok(None),
+        Some(known) => Ok(Some(known.clone()?)),
+    }
+}
+
+// Looks a key up outside of all lists.
+fn look_up(
+    scope: &Scope,
+    finds: &mut Vec<NameLookup>,
+    key: Symbol,
+) -> Result<Option<Rc<MacroDef>>, AllocError>
+    requires read { AreRead scope.now }
+    ensures found { IfOk result (λ given. option_map (λ k. numbered_of_known k.value) given
+        ≡ scope_in scope.now key) }
+    ensures rules { IfOk result (λ given. IfSome given (λ k. IsRead scope.now.edition k.value)) }
+    ensures finds { OnOk result (map find_of finds.new.items
+        ≡ map find_of finds.old.items ++ (key, scope_in scope.now key) ∷ []) }
+{
+    let Some(known) = scope.find(&key) else {
+        push_find(finds, key, None)?;
+        return Ok(None);
+    };
+    let given = known.clone()?;
+    push_find(finds, key, Some(known))?;
+    Ok(Some(given))
+}
+
+// What a call with which the trees begin finds: a definition of a list around it, or else what its
+// key finds outside of them, which alone is a look-up.
+fn resolve<G, S>(
+    env: &Environment<'_, G>,
+    search: &mut Search<S>,
+    trees: &TtIter<'_>,
+    call: &Call<'_>,
+) -> Result<Option<Rc<MacroDef>>, TtFault>
+    requires read { AreRead env.now.scope.now }
+    requires edition { search.old.locals.edition ≡ env.now.scope.now.edition }
+    ensures found { IfOk result (λ given. option_map (λ k. numbered_of_known k.value) given
+        ≡ resolved (scope_in env.now.scope.now) (locals_of search.old.locals) trees.now call.now) }
+    ensures rules { IfOk result (λ given.
+        IfSome given (λ k. IsRead env.now.scope.now.edition k.value)) }
+    ensures locals { search.new.locals ≡ search.old.locals }
+    ensures output { search.new.out.output ≡ search.old.out.output }
+    ensures faults { search.new.out.faults ≡ search.old.out.faults }
+    ensures finds { OnOk result (map find_of search.new.out.finds.items
+        ≡ map find_of search.old.out.finds.items
+        ++ lookups_of (scope_in env.now.scope.now) (locals_of search.old.locals) trees.now
+        call.now) }
+    ensures memory { IsOkUnless result Memory }
+{
+    if let Some(known) = local_of(&search.locals, trees, call)? {
+        return Ok(Some(known));
+    }
+    let key = key_at(env.alloc, trees, call)?;
+    Ok(look_up(env.scope, &mut search.out.finds, key)?)
+}
+
+// Emits the next event, and passes it: a leaf, the opening of a group or its closing. `false` at
+// the end of all lists. Where `is_argument` a group that is entered is that of a call that stays.
+fn pass_event<S: EventSink>(
+    outer: Option<Span>,
+    search: &mut Search<S>,
+    walk: &mut ListWalk<'_>,
+    is_argument: bool,
+) -> Result<bool, AllocError>
+    ensures end { IfOk result (λ more. more ≡ false → (search.new ≡ search.old) × ((p : Place) →
+        IsAt walk.old search.old.locals p → (p.here ≡ empty) × (p.groups ≡ []))) }
+    ensures turn { IfOk result (λ more. more ≡ true → (world : World Numbered) (scope : List ℕ →
+        Option Numbered) (depth : ℕ) (p : Place) → IsAt walk.old search.old.locals p →
+        IsPassable world.dialect.scope is_argument p →
+        Goes world scope depth outer S.has_taken (left_ahead world scope depth outer is_argument p)
+        search.old search.new walk.old walk.new) }
+{
+    let Some(step) = walk.trees.next()? else {
+        return Ok(false);
+    };
+    search.out.output.take(&step, outer)?;
+    match step {
+        TokenEvent::Leaf(leaf) => walk.begun = walk.begun.with_leaf(leaf),
+        TokenEvent::Opens(kind, _) => {
+            let inside = if is_argument {
+                Standing::Argument
+            } else {
+                standing_in(kind, walk.standing)
+            };
+            walk.enter(kind, search.locals.len(), inside)?;
+        }
+        TokenEvent::Closes(kind, _) => walk.leave(kind, &mut search.locals),
+    }
+    Ok(true)
+}
+
+// Emits the tokens before the group of a call that stays, and enters the group.
+fn keep_call<'a, S: EventSink>(
+    alloc: Global,
+    outer: Option<Span>,
+    search: &mut Search<S>,
+    walk: &mut ListWalk<'a>,
+    from_group: TtIter<'a>,
+) -> Result<(), AllocError>
+    requires { (passed : Forest) × (walk.old.trees.here ≡ joined passed from_group) }
+    ensures turn { OnOk result ((world : World Numbered) (scope : List ℕ → Option Numbered)
+        (depth : ℕ) (p : Place) (before : Forest) → IsAt walk.old search.old.locals p →
+        p.here ≡ joined before from_group.entry → BeginsWithGroup from_group.entry →
+        Goes world scope depth outer S.has_taken
+        (kept_left world scope depth outer before from_group.entry p)
+        search.old search.new walk.old walk.new) }
+{
+    keep(alloc, outer, &mut search.out, &mut walk.trees.here, from_group)?;
+    walk.begun = Begun::Other;
+    let _entered = pass_event(outer, search, walk, true)?;
+    Ok(())
+}
+
+// A definition of a list enters the scope. It is printed where it is not left out.
+fn define<G: FragmentGrammar, S: EventSink>(
+    env: &Environment<'_, G>,
+    outer: Option<Span>,
+    search: &mut Search<S>,
+    standing: Standing,
+    piece: &TtIter<'_>,
+) -> Result<(), TtFault>
+    requires definition { is_some (definition_of piece.now) ≡ true }
+    requires edition { search.old.locals.edition ≡ env.now.scope.now.edition }
+    ensures adds { OnOk result ((rules : ScopeRules) (d : Definition) (locals : List Definition) →
+        definition_of piece.now ≡ Some d → Adds S.has_taken search.old.out search.new.out
+        (defined rules (world_under (G.answer env.now.grammar.now) env.now.dialect
+        env.now.scope.now) unnumbered (scope_in env.now.scope.now)
+        (record { standing = standing; outer = outer; locals = locals }) d).outcome) }
+    ensures locals { OnOk result ((d : Definition) → definition_of piece.now ≡ Some d →
+        locals_of search.new.locals ≡ d ∷ locals_of search.old.locals) }
+    ensures edition { OnOk result (search.new.locals.edition ≡ search.old.locals.edition) }
+    ensures memory { IsOkUnless result Memory }
+{
+    let Some(definition) = definition_of(piece) else {
+        unreachable!()
+    };
+    let place = definition.name.span;
+    let known = MacroDef::in_list(env.alloc, env.scope.edition, piece, place)?;
+    if known.rules.err().is_some() {
+        let at = outer.unwrap_or(place);
+        push_told(&mut search.out.faults, FaultKind::BrokenDefinition, at)?;
+    }
+    if standing != Standing::Enclosed {
+        take_walk(env.alloc, &mut search.out.output, piece, outer)?;
+    }
+    match Rc::new(env.alloc, known) {
+        Ok(known) => search.locals.push(known)?,
+        Err(_) => return Err(TtFault::Memory),
+    }
+    Ok(())
+}
+
+// The definition with which a piece begins at the present place, and what follows it. `None` in
+// the midst of a piece, and where lists have no definitions.
+fn piece_ahead<'a>(dialect: Dialect, walk: &ListWalk<'a>) -> Option<(TtIter<'a>, TtIter<'a>)>
+    ensures some { IfSome result (λ found. (walk.now.begun ≡ Begun.Nothing)
+        × (dialect.scope ≡ ScopeRules.Rust) × IsAhead walk.now.trees.here (Some found)) }
+    ensures none { IfNone result (dialect.scope ≡ ScopeRules.Rust → walk.now.begun ≡ Begun.Nothing →
+        IsAhead walk.now.trees.here None) }
+{
+    if walk.begun == Begun::Nothing && dialect.scope == ScopeRules::Rust {
+        definition_ahead(&walk.trees.here)
+    } else {
+        None
+    }
+}
+
+// What of a piece came behind a call whose group the trees begin with.
+fn begun_behind(from_group: &TtIter<'_>) -> Begun
+    ensures { result ≡ begun_behind from_group.now }
+{
+    match from_group.first_group() {
+        Some((brackets, _, _)) => Begun::Other.with_group(brackets.kind),
+        None => Begun::Other,
+    }
+}
+
 // Expands the call at the head of the trees, and passes it. Its result is searched with one level
 // less.
 //
-// A call with a fault is emitted as it is. If the name resolves to nothing, only the tokens before
-// the group are passed, so the search goes on inside the group.
+// A call with a fault is emitted as it is. If the name resolves to nothing, the call is emitted
+// with its group searched.
 #[cycle(searching)]
 fn expand_call<'a, G: FragmentGrammar, S: EventSink>(
     env: &Environment<'_, G>,
     outer: Option<Span>,
-    out: &mut Expanding<S>,
-    trees: &mut TtIter<'a>,
+    search: &mut Search<S>,
+    walk: &mut ListWalk<'a>,
     call: Call<'a>,
 ) -> Result<(), TtFault>
-    requires call { call_at trees.old ≡ Some call }
+    requires call { call_at walk.old.trees.here ≡ Some call }
     requires read { AreRead env.now.scope.now }
-    ensures turn { OnOk result (Turn S.has_taken
-        (searched_under (G.answer env.now.grammar.now) env.now.scope.now env.now.depth outer)
-        out.old out.new trees.old trees.new) }
-    ensures tokens { result ≡ Err TtFault.Tokens →
-        (searched_under (G.answer env.now.grammar.now) env.now.scope.now env.now.depth outer
-        trees.old).bursts ≡ true }
+    requires edition { search.old.locals.edition ≡ env.now.scope.now.edition }
+    ensures turn { OnOk result ((p : Place) → IsAt walk.old search.old.locals p →
+        IsPlainAhead env.now.dialect.scope p → GoesUnder (G.answer env.now.grammar.now)
+        env.now.dialect env.now.scope.now env.now.depth outer S.has_taken p
+        search.old search.new walk.old walk.new) }
+    ensures tokens { result ≡ Err TtFault.Tokens → (p : Place) →
+        IsAt walk.old search.old.locals p → IsPlainAhead env.now.dialect.scope p →
+        (left_under (G.answer env.now.grammar.now) env.now.dialect env.now.scope.now env.now.depth
+        outer p).0.bursts ≡ true }
 {
-    let key = key_at(env.alloc, trees, &call)?;
-    let Some(known) = env.scope.find(&key) else {
-        push_find(&mut out.finds, key, None)?;
-        keep(env.alloc, outer, out, trees, call.from_group)?;
+    let Some(known) = resolve(env, search, &walk.trees.here, &call)? else {
+        keep_call(env.alloc, outer, search, walk, call.from_group)?;
         return Ok(());
     };
-    push_find(&mut out.finds, key, Some(known))?;
     let at = outer.unwrap_or(call.name.span);
+    walk.begun = begun_behind(&call.from_group);
     match answer(env, known.as_ref(), &call.argument, at)? {
         Ok(result) => {
-            *trees = call.rest;
+            walk.trees.here = call.rest;
             let inside = result.token_trees().iter();
-            search(&env.deeper(), Some(at), out, &inside)
+            search_list(&env.deeper(), Some(at), search, walk.standing, &inside)
         }
         Err(kind) => {
-            push_told(&mut out.faults, kind, at)?;
-            keep(env.alloc, outer, out, trees, call.rest)?;
+            push_told(&mut search.out.faults, kind, at)?;
+            keep(env.alloc, outer, &mut search.out, &mut walk.trees.here, call.rest)?;
             Ok(())
         }
     }
 }
 
-// Searches trees for calls, those in groups included, and expands them. Each event gets `outer`,
+// Searches a list for calls and definitions, and the lists in its groups. Each event gets `outer`,
 // the span of the name of the outermost call that it comes from, if any.
 #[cycle(searching)]
-fn search<G: FragmentGrammar, S: EventSink>(
+fn search_list<G: FragmentGrammar, S: EventSink>(
     env: &Environment<'_, G>,
     outer: Option<Span>,
-    out: &mut Expanding<S>,
+    search: &mut Search<S>,
+    standing: Standing,
     trees: &TtIter<'_>,
 ) -> Result<(), TtFault>
-    requires { AreRead env.now.scope.now }
-    ensures adds { OnOk result (Adds S.has_taken out.old out.new
-        (searched_under (G.answer env.now.grammar.now) env.now.scope.now env.now.depth outer
-        trees.now)) }
+    requires read { AreRead env.now.scope.now }
+    requires edition { search.old.locals.edition ≡ env.now.scope.now.edition }
+    ensures adds { OnOk result (Adds S.has_taken search.old.out search.new.out
+        (searched_under (G.answer env.now.grammar.now) env.now.dialect env.now.scope.now
+        env.now.depth (around_in standing outer search.old.locals) trees.now).outcome) }
+    ensures locals { OnOk result (locals_of search.new.locals
+        ≡ (searched_under (G.answer env.now.grammar.now) env.now.dialect env.now.scope.now
+        env.now.depth (around_in standing outer search.old.locals) trees.now).defines
+        ++ locals_of search.old.locals) }
+    ensures edition { OnOk result (search.new.locals.edition ≡ search.old.locals.edition) }
     ensures tokens { result ≡ Err TtFault.Tokens →
-        (searched_under (G.answer env.now.grammar.now) env.now.scope.now env.now.depth outer
-        trees.now).bursts ≡ true }
+        (searched_under (G.answer env.now.grammar.now) env.now.dialect env.now.scope.now
+        env.now.depth (around_in standing outer search.old.locals) trees.now).outcome.bursts
+        ≡ true }
 {
-    let mut walk = TreeWalk::new(env.alloc, trees);
+    let mut walk = ListWalk::new(env.alloc, trees, standing);
     'turns: loop {
-        match beginning_of(&walk.here) {
-            Beginning::Call(call) => expand_call(env, outer, out, &mut walk.here, call)?,
+        if let Some((piece, rest)) = piece_ahead(env.dialect, &walk) {
+            define(env, outer, search, walk.standing, &piece)?;
+            walk.trees.here = rest;
+            continue 'turns;
+        }
+        match beginning_of(&walk.trees.here) {
+            Beginning::Call(call) => expand_call(env, outer, search, &mut walk, call)?,
             Beginning::BehindColons(call) => {
-                keep(env.alloc, outer, out, &mut walk.here, call.from_group)?;
+                keep_call(env.alloc, outer, search, &mut walk, call.from_group)?;
             }
             Beginning::Leaf(leaf, rest) => {
-                walk.here = rest;
-                out.output.take(&TokenEvent::Leaf(leaf), outer)?;
+                walk.trees.here = rest;
+                walk.begun = walk.begun.with_leaf(leaf);
+                search.out.output.take(&TokenEvent::Leaf(leaf), outer)?;
             }
             Beginning::Other => {
-                let Some(step) = walk.next()? else {
+                if !pass_event(outer, search, &mut walk, false)? {
                     return Ok(());
-                };
-                out.output.take(&step, outer)?;
+                }
             }
         }
     }
 }
 
-// Whether the trees have no call, and nothing that would be one but for the `::` before it. Such
-// trees stay as they are.
+// Whether the trees have no call, nothing that would be one but for the `::` before it, and no
+// definition keyword. Such trees stay as they are.
 fn is_quiet(alloc: Global, trees: &TtIter<'_>) -> Result<bool, AllocError>
-    ensures { IfOk result (λ quiet. quiet ≡ true →
-        (world : World Numbered) (scope : List ℕ →
-        Option Numbered) (depth : ℕ) (outer : Option Span) →
-        searched world scope depth outer trees.now ≡ just outer (walk trees.now)) }
+    ensures calls { IfOk result (λ quiet. quiet ≡ true →
+        (world : World Numbered) (scope : List ℕ → Option Numbered) (deeper : Deeper Numbered)
+        (outer : Option Span) →
+        search_calls world scope deeper outer (marked trees.now) ≡ just outer (walk trees.now)) }
+    ensures words { IfOk result (λ quiet. quiet ≡ true → HasNoKeyword trees.now) }
 {
     let mut rest = TreeWalk::new(alloc, trees);
     'steps: loop {
@@ -285,9 +529,12 @@ fn is_quiet(alloc: Global, trees: &TtIter<'_>) -> Result<bool, AllocError>
         if call_behind_colons(&rest.here).is_some() {
             return Ok(false);
         }
-        let Some(_step) = rest.next()? else {
+        let Some(step) = rest.next()? else {
             return Ok(true);
         };
+        if is_definition_word(&step) {
+            return Ok(false);
+        }
     }
 }
 
@@ -317,19 +564,22 @@ pub fn expand_into<G: FragmentGrammar, S: EventSink>(
 ) -> Result<Expanding<S>, TtFault>
     requires { AreRead env.now.scope.now }
     ensures expands { IfOk result (λ given. Expands S.has_taken sink given
-        (expanded_under (G.answer env.now.grammar.now) env.now.scope.now env.now.depth
-        tree.now.inner)) }
+        (expanded_under (G.answer env.now.grammar.now) env.now.dialect env.now.scope.now
+        env.now.depth tree.now.inner)) }
     ensures tokens { result ≡ Err TtFault.Tokens →
-        (expanded_under (G.answer env.now.grammar.now) env.now.scope.now env.now.depth
-        tree.now.inner).bursts ≡ true }
+        (expanded_under (G.answer env.now.grammar.now) env.now.dialect env.now.scope.now
+        env.now.depth tree.now.inner).bursts ≡ true }
 {
-    let mut out = Expanding {
-        output: sink,
-        faults: Vec::new(env.alloc),
-        finds: Vec::new(env.alloc),
+    let mut search = Search {
+        out: Expanding {
+            output: sink,
+            faults: Vec::new(env.alloc),
+            finds: Vec::new(env.alloc),
+        },
+        locals: Locals::new(env.alloc, env.scope.edition),
     };
-    search(env, None, &mut out, &tree.iter())?;
-    Ok(out)
+    search_list(env, None, &mut search, Standing::Top, &tree.iter())?;
+    Ok(search.out)
 }
 
 /// Expands a tree in an environment into a list of events, as `expand_into` does.
@@ -343,11 +593,11 @@ pub fn expand_piece<G: FragmentGrammar>(
 ) -> Result<Outcome, TtFault>
     requires { AreRead env.now.scope.now }
     ensures outcome { IfOk result (λ o. parts_for tree.now.inner o ≡ parts_of
-        (expanded_under (G.answer env.now.grammar.now) env.now.scope.now env.now.depth
-        tree.now.inner)) }
+        (expanded_under (G.answer env.now.grammar.now) env.now.dialect env.now.scope.now
+        env.now.depth tree.now.inner)) }
     ensures tokens { result ≡ Err TtFault.Tokens →
-        (expanded_under (G.answer env.now.grammar.now) env.now.scope.now env.now.depth
-        tree.now.inner).bursts ≡ true }
+        (expanded_under (G.answer env.now.grammar.now) env.now.dialect env.now.scope.now
+        env.now.depth tree.now.inner).bursts ≡ true }
 {
     let alloc = env.alloc;
     let quiet = is_quiet(alloc, &tree.iter())?;

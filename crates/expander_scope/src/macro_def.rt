@@ -1,22 +1,22 @@
 //! Definitions with piece-relative spans, their ids, and the rules parsed from them.
-ghost use Rattle.std.specs.Prelude.{◌≡◌, IfOk, IsOkUnless, true, is_some};
+ghost use Rattle.std.specs.Prelude.{◌≡◌, IfOk, IsOkUnless, true, is_some, nat_eq, if◌then◌else◌};
 ghost use Rattle.tt_data.specs.Forest.{map_spans};
 ghost use Rattle.tt_data.specs.fault.TtFault.TheVariants.{Memory};
 ghost use Rattle.expander_model.specs.Definitions.{definition_of};
 ghost use Rattle.expander_model.specs.Held.{anchored};
 ghost use Rattle.expander_scope.specs.MacroDefs.{definition_in};
 
-use crate::rules::rules_in;
+use crate::rules::{rules_in, tree_of};
 use expander_model::definition::definition_of;
 use mbe::DeclarativeMacro;
 use std::alloc::Global;
-use tt::TopSubtree;
-use tt_data::{Edition, Symbol, TextRange, TtFault};
+use tt::{TopSubtree, TtIter};
+use tt_data::{Edition, Span, Symbol, TextRange, TtFault};
 
 /// A definition with piece-relative spans, its id and its rules.
 #[derive(Drop)]
 pub struct MacroDef {
-    /// Its id: equal definitions share it, and others have another.
+    /// Its id: equal definitions share it, and others have another. 0 for one in a list.
     pub number: u32,
     /// The whole piece.
     pub tree: TopSubtree,
@@ -24,22 +24,24 @@ pub struct MacroDef {
     pub name: Symbol,
     /// The range of its name in the piece.
     pub place: TextRange,
-    /// Its rules. All their spans have its id as their anchor.
+    /// Its rules. All their spans have its id as their anchor, if it has one.
     pub rules: DeclarativeMacro,
     ghost is_definition: { is_some (definition_of tree.inner) ≡ true },
     ghost named: { name ≡ (definition_in tree.inner).name.sym },
     ghost placed: { place ≡ (definition_in tree.inner).name.span.range },
 }
 
-// A copy of the tree in which each span has this id as its anchor.
+// A copy of the tree in which each span has this id as its anchor. 0 is no id: the spans stay.
 fn anchored_tree(alloc: Global, number: u32, tree: &TopSubtree) -> Result<TopSubtree, TtFault>
     ensures tree { IfOk result (λ t. t.inner ≡ map_spans (anchored number) tree.now.inner) }
     ensures memory { IsOkUnless result Memory }
 {
     let mut copy = tree.try_clone(alloc)?;
-    let answer = move |_anchor: u32|
-        ensures { result ≡ number }
-    { number };
+    let answer = move |anchor: u32|
+        ensures { result ≡ (if nat_eq number 0 then anchor else number) }
+    {
+        if number == 0 { anchor } else { number }
+    };
     copy.change_every_ast_id(alloc, answer)?;
     Ok(copy)
 }
@@ -47,8 +49,8 @@ fn anchored_tree(alloc: Global, number: u32, tree: &TopSubtree) -> Result<TopSub
 impl MacroDef {
     ghost use Rattle.expander_scope.specs.Editions.{IsRead};
 
-    /// The definition that a tree is, with this id. All its identifiers have this edition. Out of
-    /// memory is its only error.
+    /// The definition that a tree is, with this id, or 0 for none. All its identifiers have this
+    /// edition. Out of memory is its only error.
     pub fn new(
         alloc: Global,
         edition: Edition,
@@ -77,6 +79,24 @@ impl MacroDef {
             place,
             rules,
         })
+    }
+
+    /// The definition that a piece of a list is: it has no id, and its tokens keep their anchors.
+    /// Out of memory is its only error.
+    pub fn in_list(
+        alloc: Global,
+        edition: Edition,
+        piece: &TtIter<'_>,
+        place: Span,
+    ) -> Result<Self, TtFault>
+        requires { is_some (definition_of piece.now) ≡ true }
+        ensures number { IfOk result (λ k. k.number ≡ 0) }
+        ensures tree { IfOk result (λ k. k.tree.inner ≡ piece.now) }
+        ensures read { IfOk result (IsRead edition) }
+        ensures memory { IsOkUnless result Memory }
+    {
+        let tree = tree_of(alloc, piece, place)?;
+        MacroDef::new(alloc, edition, 0, tree)
     }
 
     /// How many bytes its name has.

@@ -11,9 +11,9 @@ use std::alloc::Global;
 use tt::{TopSubtree, TtIter};
 use tt_data::{Delimiter, Edition, Span, SyntaxContext, TtFault};
 
-// A tree of these trees. They are part of a tree, so they are not too many: its only error is out
-// of memory.
-fn tree_of(alloc: Global, trees: &TtIter<'_>, place: Span) -> Result<TopSubtree, TtFault>
+/// A tree of these trees. They are part of a tree, so they are not too many: its only error is out
+/// of memory.
+pub(crate) fn tree_of(alloc: Global, trees: &TtIter<'_>, place: Span) -> Result<TopSubtree, TtFault>
     ensures trees { IfOk result (λ t. t.inner ≡ trees.now) }
     ensures memory { IsOkUnless result Memory }
 {

@@ -424,7 +424,7 @@ bang_other p d h = by_false (is_char ";" p) Nothing Other (bang_goes_on p d h)
 
 module _ (name : Ident) (bang : Punct) (d : Delimiter) (inner : Forest) where
   -- a call's tokens, and trees after them
-  abbrev call_before : Path → Forest → Forest
+  abbrev pub call_before : Path → Forest → Forest
   call_before path rest = in_front path (leaf (as_leaf.Ident name) (leaf (as_leaf.Punct bang) (group d inner rest)))
 
   marked-bare : (rest : Forest) → is_bang_group bang d ≡ true → marked (call_before bare rest) ≡ call bare name bang d (marked inner) (marked rest)

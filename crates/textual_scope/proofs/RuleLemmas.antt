@@ -62,6 +62,20 @@ module _ (world : World Definition) (local : Definition → Definition) (scope :
       → scoped Rust world local scope depth (without_locals standing outer) f ≡ only (expansion world scope depth outer f)
   no_keyword_in depth standing outer f h = as_expansion Rust world local scope HasNoKeyword (without_keywords world scope adds) depth standing outer f h
 
+-- where names find nothing outside of lists, trees without keywords have no definitions
+wordless_none : {D : Type 0} → (world : World D) → HasNone Rust world (λ key. None) HasNoKeyword
+wordless_none world = record {
+  in_parts = plain_pieces;
+  inner = none_inside;
+  results = λ key d e argument result h fit. absurd (cc e);
+  whole = λ deeper outer f. piece_by_piece world (λ key. None) deeper outer f;
+}
+
+pub wordless_scoped : {D : Type 0} → (world : World D) (local : Definition → D) (depth : ℕ) (f : Forest) → HasNoKeyword f → (r : ScopeRules)
+    → scoped r world local (λ key. None) depth (without_locals Top None) f ≡ only (expansion world (λ key. None) depth None f)
+wordless_scoped world local depth f h TopLevel = top_level world local (λ key. None) depth Top None f
+wordless_scoped world local depth f h Rust = as_expansion Rust world local (λ key. None) HasNoKeyword (wordless_none world) depth Top None f h
+
 -- what the nearest definition of a name has, if all definitions have it
 nearest_has : (P : Definition → Type 0) (before : List Definition) → All P before → (key : List ℕ) (d : Definition) → nearest before key ≡ Some d → P d
 nearest_has P [] all key d e = absurd (cc e)

@@ -44,7 +44,7 @@ within_parts TopLevel f = (omega arith, tt)
 within_parts Rust f = within_cut (size f) f empty (omega arith)
 
 module _ {D : Type 0} (rules : ScopeRules) (world : World D) (local : Definition → D) (scope : List ℕ → Option D) (deeper : Option (Search D)) where
-  abbrev SameBelow : ℕ → Search D → Search D → Type 0
+  abbrev pub SameBelow : ℕ → Search D → Search D → Type 0
   SameBelow k one two = (around : Around) (f : Forest) → size f < k → two around f ≡ one around f
 
   module _ (k : ℕ) (one two : Search D) (same : SameBelow k one two) where
@@ -76,7 +76,7 @@ module _ {D : Type 0} (rules : ScopeRules) (world : World D) (local : Definition
     same_part around p (Some d) h = refl
     same_part around p None h = same_trees around (marked p) (inside_marked k p h)
 
-    same_parts : (around : Around) (ps : List Forest) → AreWithin k ps
+    pub same_parts : (around : Around) (ps : List Forest) → AreWithin k ps
         → search_parts rules world local scope two deeper around ps ≡ search_parts rules world local scope one deeper around ps
     same_parts around [] h = refl
     same_parts around (p ∷ ps) h =

@@ -1,0 +1,106 @@
+-- What is left to search of a list, and of the lists around it, wherever a search of it stands.
+use Rattle.std.specs.Prelude.{◌≡◌, ◌<◌, ◌||◌, ℕ, zero, suc, Bool, false, List, [], ◌∷◌, ◌++◌, Option, Some, None, codes, is_some, if◌then◌else◌}
+use Rattle.bridge.specs.Text.{is_char, is_visible}
+use Rattle.small_grammar.specs.Text.{has_text}
+use Rattle.tt_data.specs.Forest.{Forest, empty, leaf, group, size}
+use Rattle.tt_data.specs.Walk.{closes}
+use Rattle.tt_data.specs.declared.delimiter.DelimiterKind.{DelimiterKind}
+use Rattle.tt_data.specs.declared.leaf.Leaf.TheVariants as as_leaf
+use Rattle.tt_data.specs.declared.span.Span.{Span}
+use Rattle.expander_model.specs.Calls.{marked}
+use Rattle.expander_model.specs.Definitions.{Definition, definition_of}
+use Rattle.expander_model.specs.Expansion.{World, Outcome, just, followed_by}
+use Rattle.expander_model.specs.Held.{Numbered, unnumbered}
+use Rattle.expander_model.specs.PieceStates.{after_leaf, after_group}
+use Rattle.expander_model.specs.Pieces.{cut}
+use Rattle.expander_model.specs.Scoping.{Around, Scoped, Search, and_next, in_brackets, search_trees}
+use Rattle.expander_model.specs.declared.begun.Begun.{Begun}
+use Rattle.expander_model.specs.declared.dialect.ScopeRules.{ScopeRules}
+use Rattle.expander_model.specs.declared.dialect.ScopeRules.TheVariants.{TopLevel, Rust}
+use Rattle.expander_model.specs.declared.dialect.Standing.{Standing}
+use Rattle.expander_model.specs.declared.dialect.Standing.TheVariants.{Top, Enclosed}
+use Rattle.expander_scope.specs.Expanding.{deeper_at, searched}
+use Rattle.textual_scope.specs.FromLeft.{left_after}
+
+-- ---- definitions ahead
+
+-- a definition can begin with the first of these trees
+abbrev pub can_begin : Forest → Bool
+can_begin (leaf (as_leaf.Ident i) rest) =
+    has_text (codes "macro_rules") i || (has_text (codes "macro") i || has_text (codes "pub") i)
+can_begin (leaf (as_leaf.Punct p) rest) = is_char "#" p
+can_begin _ = false
+
+-- the first piece is a definition, and what follows it; or it is none
+abbrev pub IsAhead : Forest → Option (Forest × Forest) → Type 0
+IsAhead f (Some (p, rest)) =
+    (cut f ≡ p ∷ cut rest) × ((is_some (definition_of p) ≡ true) × (size rest < size f))
+IsAhead f None = (p : Forest) (ps : List Forest) → cut f ≡ p ∷ ps → definition_of p ≡ None
+
+-- ---- where a search stands
+
+-- where the list in a group of this kind is
+abbrev pub standing_in : DelimiterKind → Standing → Standing
+standing_in k Top = if is_visible k then Enclosed else Top
+standing_in k s = s
+
+-- an open group: what closes it, the trees behind it, and how the list around it goes on
+pub record Open : Type 0 where
+  pub kind : DelimiterKind
+  pub close_span : Span
+  pub behind : Forest
+  pub begun : Begun
+  pub standing : Standing
+  pub locals : List Definition
+
+-- the trees left in the innermost list, what came of its present piece, where it is, the
+-- definitions around, and the open groups, the innermost first
+pub record Place : Type 0 where
+  pub here : Forest
+  pub begun : Begun
+  pub standing : Standing
+  pub locals : List Definition
+  pub groups : List Open
+
+-- what a search of lists gives, and the definitions around once it ends
+abbrev pub Left : Type 0
+Left = Outcome Numbered × List Definition
+
+-- after an outcome
+abbrev pub then_left : Outcome Numbered → Left → Left
+then_left o l = (followed_by o l.0, l.1)
+
+-- what goes on behind a group: all, or if it is visible those that were around it
+abbrev pub let_out : DelimiterKind → List Definition → List Definition → List Definition
+let_out k around inside = if is_visible k then around else inside
+
+module _ (world : World Numbered) (scope : List ℕ → Option Numbered) (depth : ℕ) where
+  -- the search of the trees left in a list
+  abbrev pub list_left : ScopeRules → Begun → Around → Forest → Scoped Numbered
+  list_left TopLevel s around f =
+      search_trees TopLevel world unnumbered scope (searched world scope depth)
+      (deeper_at world scope depth) around (marked f)
+  list_left Rust s around f =
+      left_after world unnumbered scope (searched world scope depth) (deeper_at world scope depth)
+      s around f
+
+  module _ (outer : Option Span) where
+    -- that of a list, and then what is left around it
+    abbrev pub in_list : Begun → Standing → List Definition → Forest → (List Definition → Left)
+        → Left
+    in_list s standing locals f next =
+        let a : Scoped Numbered =
+        list_left world.dialect.scope s
+        (record { standing = standing; outer = outer; locals = locals }) f in
+        then_left a.outcome (next (a.defines ++ locals))
+
+    -- what is left behind the innermost list: its group closes, and so on
+    abbrev pub groups_left : List Open → List Definition → Left
+    groups_left [] locals = (just outer [], locals)
+    groups_left (g ∷ gs) locals =
+        then_left (just outer (closes g.kind g.close_span ∷ []))
+        (in_list g.begun g.standing (let_out g.kind g.locals locals) g.behind (groups_left gs))
+
+    -- all that is left
+    abbrev pub all_left : Place → Left
+    all_left p = in_list p.begun p.standing p.locals p.here (groups_left p.groups)

@@ -1,0 +1,129 @@
+//! A traversal of a list and of those in its groups that knows where their pieces begin.
+ghost use Rattle.std.specs.Prelude.{◌≡◌, ◌≢◌, ◌++◌, ◌∷◌, [], ◌<◌, List, IfOk, OnOk, length};
+ghost use Rattle.bridge.specs.Text.{is_visible};
+ghost use Rattle.expander_model.specs.Definitions.{Definition};
+ghost use Rattle.expander_model.specs.PieceStates.{after_group};
+ghost use Rattle.expander_model.specs.Scoping.{in_group};
+ghost use Rattle.expander_scope.specs.ListsLeft.{IsAhead, can_begin, standing_in};
+ghost use Rattle.expander_scope.specs.LocalTables.{locals_of};
+
+use crate::locals::Locals;
+use expander_model::begun::Begun;
+use expander_model::definition::definition_of;
+use expander_model::dialect::Standing;
+use expander_model::split::next_piece;
+use expander_model::tree_walk::TreeWalk;
+use small_grammar::names::has_text;
+use std::alloc::{AllocError, Global};
+use tt::TtIter;
+use tt_data::{DelimiterKind, LeafRef};
+
+/// What the list around an open group goes on with.
+#[derive(Drop)]
+pub(crate) struct Level {
+    begun: Begun,
+    standing: Standing,
+    // How many definitions were around the group.
+    locals: usize,
+}
+
+/// A traversal of a list and of those in its groups.
+#[derive(Drop)]
+pub(crate) struct ListWalk<'a> {
+    pub trees: TreeWalk<'a>,
+    // One for each group that it is in, the innermost last.
+    levels: Vec<Level>,
+    /// What of the present piece came so far.
+    pub begun: Begun,
+    /// Where the innermost list is.
+    pub standing: Standing,
+}
+
+impl<'a> ListWalk<'a> {
+    /// A traversal at the beginning of a list.
+    pub fn new(alloc: Global, trees: &TtIter<'a>, standing: Standing) -> Self {
+        ListWalk {
+            trees: TreeWalk::new(alloc, trees),
+            levels: Vec::new(alloc),
+            begun: Begun::Nothing,
+            standing,
+        }
+    }
+
+    /// A group of this kind was entered, around which there are so many definitions: its list is
+    /// `inside`.
+    pub fn enter(
+        &mut self,
+        kind: DelimiterKind,
+        locals: usize,
+        inside: Standing,
+    ) -> Result<(), AllocError>
+        ensures trees { self.new.trees ≡ self.old.trees }
+        ensures levels { OnOk result (self.new.levels.items ≡ self.old.levels.items
+            ++ record {
+              begun = after_group self.old.begun kind;
+              standing = self.old.standing;
+              locals = locals;
+            } ∷ []) }
+        ensures begun { OnOk result (self.new.begun ≡ Begun.Nothing) }
+        ensures standing { OnOk result (self.new.standing ≡ inside) }
+    {
+        self.levels.push(Level {
+            begun: self.begun.with_group(kind),
+            standing: self.standing,
+            locals,
+        })?;
+        self.begun = Begun::Nothing;
+        self.standing = inside;
+        Ok(())
+    }
+
+    /// A group of this kind was left: what a visible one defines ends with it.
+    pub fn leave(&mut self, kind: DelimiterKind, locals: &mut Locals) {
+        let Some(level) = self.levels.pop() else {
+            return;
+        };
+        if kind != DelimiterKind::Invisible {
+            locals.cut_back(level.locals);
+        }
+        self.begun = level.begun;
+        self.standing = level.standing;
+    }
+}
+
+/// Where the list in a group of this kind is.
+pub(crate) fn standing_in(kind: DelimiterKind, standing: Standing) -> Standing
+    ensures { result ≡ standing_in kind standing }
+{
+    match standing {
+        Standing::Top if kind != DelimiterKind::Invisible => Standing::Enclosed,
+        other => other,
+    }
+}
+
+// Whether a definition can begin with the tree that these begin with: an attribute, `pub`, or one
+// of the words that make definitions.
+fn can_begin(trees: &TtIter<'_>) -> bool
+    ensures { result ≡ can_begin trees.now }
+{
+    match trees.lent_leaf() {
+        Some((LeafRef::Ident(word), _)) => has_text(word, "macro_rules")
+            || has_text(word, "macro")
+            || has_text(word, "pub"),
+        Some((LeafRef::Punct(punct), _)) => punct.char == '#',
+        _ => false,
+    }
+}
+
+/// The first piece of a list and what follows it, if that piece is a definition.
+pub(crate) fn definition_ahead<'a>(trees: &TtIter<'a>) -> Option<(TtIter<'a>, TtIter<'a>)>
+    ensures { IsAhead trees.now result }
+{
+    if !can_begin(trees) {
+        return None;
+    }
+    let mut rest = trees.copied();
+    let piece = next_piece(&mut rest)?;
+    let _definition = definition_of(&piece)?;
+    Some((piece, rest))
+}
