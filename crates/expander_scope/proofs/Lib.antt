@@ -11,5 +11,6 @@ pub mod HeldLemmas
 pub mod DefinitionIdLemmas
 pub mod DefinitionTextLemmas
 mod ScopeLemmas
+mod NameStackLemmas
 mod CallResultLemmas
 mod AnchoredLemmas

@@ -18,3 +18,5 @@ pub mod DefinitionIds
 pub mod Interning
 pub mod DefinitionTexts
 pub mod NameTables
+pub mod StackEntries
+pub mod NameStacks
