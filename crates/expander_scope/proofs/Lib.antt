@@ -6,11 +6,15 @@ pub mod CallLemmas
 pub mod HandedLemmas
 mod DefinitionLemmas
 pub mod TurnLemmas
-pub mod ChangeLemmas
 pub mod HeldLemmas
 pub mod DefinitionIdLemmas
 pub mod DefinitionTextLemmas
 mod ScopeLemmas
 mod NameStackLemmas
+mod LocalLemmas
+mod ListLemmas
 mod CallResultLemmas
+mod GoesLemmas
+mod QuietLemmas
+mod PieceLemmas
 mod AnchoredLemmas

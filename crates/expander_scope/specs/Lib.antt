@@ -10,6 +10,7 @@ pub mod OffsetTables
 pub mod ScopeTable
 pub mod Sinks
 pub mod Expanding
+pub mod StackEntries
 pub mod NameStacks
 pub mod LocalTables
 pub mod ListsLeft
@@ -18,5 +19,3 @@ pub mod DefinitionIds
 pub mod Interning
 pub mod DefinitionTexts
 pub mod NameTables
-pub mod StackEntries
-pub mod NameStacks
