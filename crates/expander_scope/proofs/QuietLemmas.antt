@@ -15,12 +15,13 @@ use Rattle.expander_model.specs.Faults.{is_definition_word}
 use Rattle.expander_model.specs.Held.{Numbered, unnumbered}
 use Rattle.expander_model.specs.Scoping.{Around, Scoped, expanded, only, scoped, without_locals}
 use Rattle.expander_model.specs.declared.dialect.ScopeRules.{ScopeRules}
+use Rattle.expander_model.specs.declared.dialect.ScopeRules.TheVariants.{TopLevel, Rust}
 use Rattle.expander_model.specs.declared.dialect.Standing.TheVariants.{Top}
 use Rattle.expander_model.specs.WalkSteps.{groups_of, GoesOn}
 use Rattle.expander_model.specs.declared.tree_walk.TreeWalk.{TreeWalk}
 use Rattle.textual_scope.specs.Keywords.{HasNoKeyword}
 use Rattle.textual_scope.proofs.AgreementLemmas.{agree_scoped}
-use Rattle.textual_scope.proofs.RuleLemmas.{wordless_scoped}
+use Rattle.textual_scope.proofs.RuleLemmas.{top_level, wordless_scoped}
 use Rattle.expander_scope.proofs.OutcomeLemmas.{followed_nil, left, step_left, nothing_left, walk_search}
 use Rattle.expander_scope.proofs.TurnLemmas.{is_search, leaf_search}
 
@@ -103,16 +104,27 @@ module _ (world : World Numbered) (depth : ℕ) (f : Forest) where
   plain_expansion zero quiet = quiet None
   plain_expansion (suc n) quiet = quiet (Some (expansion world nothing n))
 
-  -- a tree without calls and definition keywords is expanded to itself, in any scope and dialect
-  pub quiet_expanded : (scope : List ℕ → Option Numbered) → HasNoKeyword f
+  -- by Rust's rules
+  rust_expanded : (scope : List ℕ → Option Numbered) → HasNoKeyword f → ((deeper : Deeper Numbered) → search_calls world nothing deeper None (marked f) ≡ just None (walk f))
+      → (r : ScopeRules) → scoped r world unnumbered scope depth (without_locals Top None) f ≡ only (just None (walk f))
+  rust_expanded scope wordless quiet r =
+      let around : Around = without_locals Top None in
+      let is : scoped r world unnumbered nothing depth around f ≡ only (just None (walk f)) =
+      wordless_scoped world unnumbered depth f wordless r ∙ ap only (plain_expansion depth quiet) in
+      agree_scoped r world unnumbered nothing scope depth around f
+      (subst (λ (a : Scoped Numbered). All (λ find. scope find.0 ≡ find.1) a.outcome.finds) (sym is) (All-nil (λ find. scope find.0 ≡ find.1)))
+      ∙ is
+
+  -- a tree without calls is expanded to itself, if where lists have definitions it has no keyword of one
+  pub quiet_expanded : (scope : List ℕ → Option Numbered) → (world.dialect.scope ≡ Rust → HasNoKeyword f)
       → ((world : World Numbered) (scope : List ℕ → Option Numbered) (deeper : Deeper Numbered) (outer : Option Span) → search_calls world scope deeper outer (marked f) ≡ just outer (walk f))
       → expanded world unnumbered scope depth f ≡ just None (walk f)
-  quiet_expanded scope wordless quiet =
-      let around : Around = without_locals Top None in
-      let r : ScopeRules = world.dialect.scope in
-      let is : scoped r world unnumbered nothing depth around f ≡ only (just None (walk f)) =
-      wordless_scoped world unnumbered depth f wordless r ∙ ap only (plain_expansion depth (λ deeper. quiet world nothing deeper None)) in
-      ap (λ (a : Scoped Numbered). a.outcome)
-      (agree_scoped r world unnumbered nothing scope depth around f
-      (subst (λ (a : Scoped Numbered). All (λ find. scope find.0 ≡ find.1) a.outcome.finds) (sym is) (All-nil (λ find. scope find.0 ≡ find.1)))
-      ∙ is)
+  quiet_expanded scope wordless quiet = ap (λ (a : Scoped Numbered). a.outcome) (go world.dialect.scope wordless)
+    where
+      in_scope : (n : ℕ) → expansion world scope n None f ≡ just None (walk f)
+      in_scope zero = quiet world scope None None
+      in_scope (suc n) = quiet world scope (Some (expansion world scope n)) None
+
+      go : (r : ScopeRules) → (r ≡ Rust → HasNoKeyword f) → scoped r world unnumbered scope depth (without_locals Top None) f ≡ only (just None (walk f))
+      go TopLevel words = top_level world unnumbered scope depth Top None f ∙ ap only (in_scope depth)
+      go Rust words = rust_expanded scope (words refl) (λ deeper. quiet world nothing deeper None) Rust

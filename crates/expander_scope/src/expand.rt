@@ -512,14 +512,19 @@ fn search_list<G: FragmentGrammar, S: EventSink>(
     }
 }
 
-// Whether the trees have no call, nothing that would be one but for the `::` before it, and no
-// definition keyword. Such trees stay as they are.
-fn is_quiet(alloc: Global, trees: &TtIter<'_>) -> Result<bool, AllocError>
+// Whether the trees have no call, nothing that would be one but for the `::` before it, and where
+// lists have definitions no keyword of one. Such trees stay as they are.
+fn is_quiet(
+    alloc: Global,
+    dialect: Dialect,
+    trees: &TtIter<'_>,
+) -> Result<bool, AllocError>
     ensures calls { IfOk result (λ quiet. quiet ≡ true →
         (world : World Numbered) (scope : List ℕ → Option Numbered) (deeper : Deeper Numbered)
         (outer : Option Span) →
         search_calls world scope deeper outer (marked trees.now) ≡ just outer (walk trees.now)) }
-    ensures words { IfOk result (λ quiet. quiet ≡ true → HasNoKeyword trees.now) }
+    ensures words { IfOk result (λ quiet. quiet ≡ true → dialect.scope ≡ ScopeRules.Rust →
+        HasNoKeyword trees.now) }
 {
     let mut rest = TreeWalk::new(alloc, trees);
     'steps: loop {
@@ -532,7 +537,7 @@ fn is_quiet(alloc: Global, trees: &TtIter<'_>) -> Result<bool, AllocError>
         let Some(step) = rest.next()? else {
             return Ok(true);
         };
-        if is_definition_word(&step) {
+        if dialect.scope == ScopeRules::Rust && is_definition_word(&step) {
             return Ok(false);
         }
     }
@@ -600,7 +605,7 @@ pub fn expand_piece<G: FragmentGrammar>(
         env.now.depth tree.now.inner).bursts ≡ true }
 {
     let alloc = env.alloc;
-    let quiet = is_quiet(alloc, &tree.iter())?;
+    let quiet = is_quiet(alloc, env.dialect, &tree.iter())?;
     if quiet {
         return Ok(unchanged(alloc));
     }
