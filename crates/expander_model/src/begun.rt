@@ -35,7 +35,7 @@ impl Begun {
 
     /// Once this leaf follows: a `;` ends a piece.
     pub fn with_leaf(self, leaf: LeafRef<'_>) -> Self
-        ensures { result ≡ after_leaf self (leaf_lent leaf) }
+        ensures { result ≡ after_leaf self (leaf_lent leaf.entry) }
     {
         match leaf {
             LeafRef::Punct(punct) => self.with_punct(punct),
