@@ -32,7 +32,7 @@ use Rattle.textual_scope.proofs.ResultLemmas.{and_next_assoc, and_nothing}
 
 -- ---- what came of a piece, by its trees
 
-pub state_of : Forest → Begun
+abbrev pub state_of : Forest → Begun
 state_of empty = Nothing
 state_of (leaf l empty) = if is_punct "#" l then Pound else Other
 state_of f = if is_pound_bang f then PoundBang else Other
@@ -95,13 +95,13 @@ state_more (leaf m (group d inner rest)) p = refl
 state_more (group d inner rest) p = refl
 
 state_other : (f : Forest) (l : Leaf) → ((w : String) → is_punct w l ≡ false) → Other ≡ state_of (joined f (leaf l empty))
-state_other empty l none = sym (by_false (is_punct "#" l) Pound Other (none "#"))
-state_other (leaf m empty) l none = sym (ap (λ b. if is_punct "#" m && b then PoundBang else Other) (none "!") ∙ never_both (is_punct "#" m))
-state_other (leaf m (leaf n empty)) l none = refl
-state_other (leaf m (leaf n (leaf k rest))) l none = refl
-state_other (leaf m (leaf n (group d inner rest))) l none = refl
-state_other (leaf m (group d inner rest)) l none = refl
-state_other (group d inner rest) l none = refl
+state_other empty l no = sym (by_false (is_punct "#" l) Pound Other (no "#"))
+state_other (leaf m empty) l no = sym (ap (λ b. if is_punct "#" m && b then PoundBang else Other) (no "!") ∙ never_both (is_punct "#" m))
+state_other (leaf m (leaf n empty)) l no = refl
+state_other (leaf m (leaf n (leaf k rest))) l no = refl
+state_other (leaf m (leaf n (group d inner rest))) l no = refl
+state_other (leaf m (group d inner rest)) l no = refl
+state_other (group d inner rest) l no = refl
 
 state_leaf : (f : Forest) (l : Leaf) → is_punct ";" l ≡ false → after_leaf (state_of f) l ≡ state_of (joined f (leaf l empty))
 state_leaf f (as_leaf.Punct p) h = by_false (is_char ";" p) Nothing (begun_with (state_of f) p) h ∙ state_more f p
@@ -180,7 +180,7 @@ pub cut-ahead : (f begun : Forest) → joined begun f ≢ empty → Ahead begun 
 cut-ahead empty begun some =
     let is : joined begun empty ≡ begun = joined-empty begun in
     cut_begun begun (λ e. some (is ∙ e)) ∙ ap (λ g. g ∷ []) (sym is)
-cut-ahead (leaf l rest) begun some = go (is_punct ";" l) refl
+cut-ahead (leaf l rest) begun some = go (cut-ahead rest (joined begun (leaf l empty)) (some_joined (joined begun (leaf l empty)) rest (some_leaf begun l))) (is_punct ";" l) refl
   where
     begun' : Forest
     begun' = joined begun (leaf l empty)
@@ -188,17 +188,18 @@ cut-ahead (leaf l rest) begun some = go (is_punct ";" l) refl
     s : Begun
     s = after_leaf (state_of begun) l
 
-    go : (b : Bool) → is_punct ";" l ≡ b → Ahead begun (piece_ahead (state_of begun) (leaf l rest)) (if b then begun' ∷ cut rest else cut_from rest begun')
-    go true h =
+    go : Ahead begun' (piece_ahead (state_of begun') rest) (cut_from rest begun') → (b : Bool) → is_punct ";" l ≡ b → Ahead begun (piece_ahead (state_of begun) (leaf l rest)) (if b then begun' ∷ cut rest else cut_from rest begun')
+    go later true h =
         subst (λ (p : Forest × Forest). Ahead begun p (begun' ∷ cut rest))
         (sym (by_false (is_begun s) (with_leaf l (piece_ahead s rest)) (leaf l empty, rest) (ended (state_of begun) l h))) refl
-    go false h =
+    go later false h =
         let q : Forest × Forest = piece_ahead (state_of begun') rest in
         subst (λ (p : Forest × Forest). Ahead begun p (cut_from rest begun'))
         (ap (λ (t : Begun). with_leaf l (piece_ahead t rest)) (sym (state_leaf begun l h))
         ∙ sym (by_true (is_begun s) (with_leaf l (piece_ahead s rest)) (leaf l empty, rest) (goes_on (state_of begun) l h)))
-        (cut-ahead rest begun' (some_joined begun' rest (some_leaf begun l)) ∙ ap (λ g. g ∷ cut q.1) (joined_assoc begun (leaf l empty) q.0))
-cut-ahead (group d inner rest) begun some = go (ends_piece begun d) refl
+        (later ∙ ap (λ g. g ∷ cut q.1) (joined_assoc begun (leaf l empty) q.0))
+cut-ahead (group d inner rest) begun some =
+    go (cut-ahead rest (joined begun (group d inner empty)) (some_joined (joined begun (group d inner empty)) rest (some_group begun d inner))) (ends_piece begun d) refl
   where
     begun' : Forest
     begun' = joined begun (group d inner empty)
@@ -206,17 +207,17 @@ cut-ahead (group d inner rest) begun some = go (ends_piece begun d) refl
     s : Begun
     s = after_group (state_of begun) d.kind
 
-    go : (b : Bool) → ends_piece begun d ≡ b → Ahead begun (piece_ahead (state_of begun) (group d inner rest)) (if b then begun' ∷ cut rest else cut_from rest begun')
-    go true h =
+    go : Ahead begun' (piece_ahead (state_of begun') rest) (cut_from rest begun') → (b : Bool) → ends_piece begun d ≡ b → Ahead begun (piece_ahead (state_of begun) (group d inner rest)) (if b then begun' ∷ cut rest else cut_from rest begun')
+    go later true h =
         subst (λ (p : Forest × Forest). Ahead begun p (begun' ∷ cut rest))
         (sym (by_false (is_begun s) (with_group d inner (piece_ahead s rest)) (group d inner empty, rest) (kind_ends begun d.kind ∙ ap not h))) refl
-    go false h =
+    go later false h =
         let more : is_begun s ≡ true = kind_ends begun d.kind ∙ ap not h in
         let q : Forest × Forest = piece_ahead (state_of begun') rest in
         subst (λ (p : Forest × Forest). Ahead begun p (cut_from rest begun'))
         (ap (λ (t : Begun). with_group d inner (piece_ahead t rest)) (sym (after_other (state_of begun) d.kind more ∙ state_group begun d inner))
         ∙ sym (by_true (is_begun s) (with_group d inner (piece_ahead s rest)) (group d inner empty, rest) more))
-        (cut-ahead rest begun' (some_joined begun' rest (some_group begun d inner)) ∙ ap (λ g. g ∷ cut q.1) (joined_assoc begun (group d inner empty) q.0))
+        (later ∙ ap (λ g. g ∷ cut q.1) (joined_assoc begun (group d inner empty) q.0))
 
 -- the trees ahead and those after them are the list
 pub ahead-joined : (f : Forest) (s : Begun) → joined (piece_ahead s f).0 (piece_ahead s f).1 ≡ f
@@ -321,11 +322,11 @@ module _ {D : Type 0} (world : World D) (local : Definition → D) (scope : List
 
   -- another piece
   pub at_piece : (around : Around) (f : Forest) → f ≢ empty → ((p : Forest) (ps : List Forest) → cut f ≡ p ∷ ps → definition_of p ≡ None) → pieces around f ≡ left Nothing around f
-  at_piece around f some none =
+  at_piece around f some plain =
       let p : Forest × Forest = piece_ahead Nothing f in
       let are : cut f ≡ p.0 ∷ cut p.1 = cut-ahead f empty some in
       ap (λ ps. search_parts Rust world local scope search deeper around ps) are
-      ∙ ap (λ r. and_next (search_part Rust world local scope search deeper around p.0 r) (λ here. pieces here p.1) around) (none p.0 (cut p.1) are)
+      ∙ ap (λ r. and_next (search_part Rust world local scope search deeper around p.0 r) (λ here. pieces here p.1) around) (plain p.0 (cut p.1) are)
 
   -- a leaf that begins no call
   pub at_token : (s : Begun) (around : Around) (l : Leaf) (rest : Forest) → mark_leaf l (marked rest) ≡ token l (marked rest)
