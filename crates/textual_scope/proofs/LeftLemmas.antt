@@ -95,13 +95,13 @@ state_more (leaf m (group d inner rest)) p = refl
 state_more (group d inner rest) p = refl
 
 state_other : (f : Forest) (l : Leaf) → ((w : String) → is_punct w l ≡ false) → Other ≡ state_of (joined f (leaf l empty))
-state_other empty l no = sym (by_false (is_punct "#" l) Pound Other (no "#"))
-state_other (leaf m empty) l no = sym (ap (λ b. if is_punct "#" m && b then PoundBang else Other) (no "!") ∙ never_both (is_punct "#" m))
-state_other (leaf m (leaf n empty)) l no = refl
-state_other (leaf m (leaf n (leaf k rest))) l no = refl
-state_other (leaf m (leaf n (group d inner rest))) l no = refl
-state_other (leaf m (group d inner rest)) l no = refl
-state_other (group d inner rest) l no = refl
+state_other empty l unlike = sym (by_false (is_punct "#" l) Pound Other (unlike "#"))
+state_other (leaf m empty) l unlike = sym (ap (λ b. if is_punct "#" m && b then PoundBang else Other) (unlike "!") ∙ never_both (is_punct "#" m))
+state_other (leaf m (leaf n empty)) l unlike = refl
+state_other (leaf m (leaf n (leaf k rest))) l unlike = refl
+state_other (leaf m (leaf n (group d inner rest))) l unlike = refl
+state_other (leaf m (group d inner rest)) l unlike = refl
+state_other (group d inner rest) l unlike = refl
 
 state_leaf : (f : Forest) (l : Leaf) → is_punct ";" l ≡ false → after_leaf (state_of f) l ≡ state_of (joined f (leaf l empty))
 state_leaf f (as_leaf.Punct p) h = by_false (is_char ";" p) Nothing (begun_with (state_of f) p) h ∙ state_more f p
