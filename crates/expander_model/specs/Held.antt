@@ -50,9 +50,14 @@ Stands p = StandFrom (first_text p) p
 abbrev pub StandFromFirst : Forest → Type 0
 StandFromFirst p = StandFrom 0 p
 
--- the tokens of a definition with this id have it as anchor; 0 is no id, and they keep theirs
+-- the anchor that a definition's id makes of this one: 0 is no id, and leaves it
+abbrev pub anchor_by : ℕ → ℕ → ℕ
+anchor_by zero anchor = anchor
+anchor_by (suc n) anchor = suc n
+
+-- the tokens of a definition with this id have it as anchor
 abbrev pub anchored : ℕ → Span → Span
-anchored n s = record s { anchor = if nat_eq n 0 then s.anchor else n }
+anchored n s = record s { anchor = anchor_by n s.anchor }
 
 -- a span counted from n, as a span of the text that is expanded
 abbrev pub moved_on : ℕ → Span → Span

@@ -37,6 +37,15 @@ impl<'a> TreeWalk<'a> {
         }
     }
 
+    /// Goes on with these trees in the innermost group, in the place of those left there.
+    #[inline(always)]
+    pub fn go_on(&mut self, trees: TtIter<'a>)
+        ensures here { self.new.here ≡ trees.entry }
+        ensures groups { groups_of self.new ≡ groups_of self.old }
+    {
+        self.here = trees;
+    }
+
     /// The next event, a leaf lent. `None` at the end.
     #[inline(always)]
     pub fn next(&mut self) -> Result<Option<TokenEvent<'a>>, AllocError>

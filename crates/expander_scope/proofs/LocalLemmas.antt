@@ -1,7 +1,8 @@
 -- The definitions of the lists around a place.
 use Rattle.std.proofs.Common.{◌≡◌, ℕ, List, [], ◌∷◌, map, cond, refl, sym, ap, subst, ◌∙◌, Bool, true, false}
 use Rattle.std.specs.Prelude.{All, Option, Some, None, find, option_map}
-use Rattle.std.specs.Rc.{Rc, rc_value}
+use Rattle.std.specs.Rc.{rc_value}
+use Rattle.std.specs.declared.rc.Rc.{Rc}
 use Rattle.std.proofs.lemmas.List.Elements.{All-head, All-tail}
 use Rattle.small_grammar.specs.Text.{same_text}
 use Rattle.expander_model.specs.Definitions.{Definition, nearest}

@@ -12,6 +12,7 @@ pub mod Sinks
 pub mod Expanding
 pub mod StackEntries
 pub mod NameStacks
+pub mod LocalEntries
 pub mod LocalTables
 pub mod ListsLeft
 pub mod Turns

@@ -449,7 +449,7 @@ fn expand_call<'a, G: FragmentGrammar, S: EventSink>(
     walk.begun = begun_behind(&call.from_group);
     match answer(env, known.as_ref(), &call.argument, at)? {
         Ok(result) => {
-            walk.trees.here = call.rest;
+            walk.trees.go_on(call.rest);
             let inside = result.token_trees().iter();
             search_list(&env.deeper(), Some(at), search, walk.standing, &inside)
         }
@@ -490,7 +490,7 @@ fn search_list<G: FragmentGrammar, S: EventSink>(
     'turns: loop {
         if let Some((piece, rest)) = piece_ahead(env.dialect, &walk) {
             define(env, outer, search, walk.standing, &piece)?;
-            walk.trees.here = rest;
+            walk.trees.go_on(rest);
             continue 'turns;
         }
         match beginning_of(&walk.trees.here) {
@@ -499,7 +499,7 @@ fn search_list<G: FragmentGrammar, S: EventSink>(
                 keep_call(env.alloc, outer, search, &mut walk, call.from_group)?;
             }
             Beginning::Leaf(leaf, rest) => {
-                walk.trees.here = rest;
+                walk.trees.go_on(rest);
                 walk.begun = walk.begun.with_leaf(leaf);
                 search.out.output.take(&TokenEvent::Leaf(leaf), outer)?;
             }

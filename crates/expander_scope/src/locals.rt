@@ -1,10 +1,5 @@
 //! The definitions of the lists around a place.
-ghost use Rattle.std.specs.Prelude.{◌≡◌, ◌∷◌, ◌++◌, [], List, IfOk, IfSome, OnOk, length, option_map};
-ghost use Rattle.expander_model.specs.Definitions.{Definition, nearest};
-ghost use Rattle.expander_model.specs.Held.{unnumbered};
-ghost use Rattle.expander_scope.specs.Editions.{IsRead};
-ghost use Rattle.expander_scope.specs.LocalTables.{AreNamed, AreOfLists, AreReadIn, locals_of};
-ghost use Rattle.expander_scope.specs.Outcomes.{numbered_of_known};
+ghost use Rattle.expander_scope.specs.LocalEntries.{AreNamed, AreOfLists, AreReadIn};
 
 use crate::macro_def::MacroDef;
 use crate::name_stack::NameStack;
@@ -24,6 +19,13 @@ pub(crate) struct Locals {
 }
 
 impl Locals {
+    ghost use Rattle.std.specs.Prelude.{◌≡◌, ◌∷◌, ◌++◌, [], List, IfSome, OnOk, length, option_map, true};
+    ghost use Rattle.expander_model.specs.Definitions.{Definition, nearest};
+    ghost use Rattle.expander_model.specs.Held.{unnumbered};
+    ghost use Rattle.expander_scope.specs.Editions.{IsRead};
+    ghost use Rattle.expander_scope.specs.LocalTables.{locals_of};
+    ghost use Rattle.expander_scope.specs.Outcomes.{numbered_of_known};
+
     /// No definition.
     pub fn new(alloc: Global, edition: Edition) -> Self
         ensures none { locals_of result ≡ [] }

@@ -1,9 +1,9 @@
 //! Definitions with piece-relative spans, their ids, and the rules parsed from them.
-ghost use Rattle.std.specs.Prelude.{◌≡◌, IfOk, IsOkUnless, true, is_some, nat_eq, if◌then◌else◌};
+ghost use Rattle.std.specs.Prelude.{◌≡◌, IfOk, IsOkUnless, true, is_some};
 ghost use Rattle.tt_data.specs.Forest.{map_spans};
 ghost use Rattle.tt_data.specs.fault.TtFault.TheVariants.{Memory};
 ghost use Rattle.expander_model.specs.Definitions.{definition_of};
-ghost use Rattle.expander_model.specs.Held.{anchored};
+ghost use Rattle.expander_model.specs.Held.{anchor_by, anchored};
 ghost use Rattle.expander_scope.specs.MacroDefs.{definition_in};
 
 use crate::rules::{rules_in, tree_of};
@@ -38,7 +38,7 @@ fn anchored_tree(alloc: Global, number: u32, tree: &TopSubtree) -> Result<TopSub
 {
     let mut copy = tree.try_clone(alloc)?;
     let answer = move |anchor: u32|
-        ensures { result ≡ (if nat_eq number 0 then anchor else number) }
+        ensures { result ≡ anchor_by number anchor }
     {
         if number == 0 { anchor } else { number }
     };
