@@ -15,7 +15,7 @@ use Rattle.expander_model.specs.Definitions.{Definition, nearest, or_else}
 use Rattle.expander_model.specs.Expansion.{World, Outcome, CallSite, PlacedStep, placed, just, followed_by, grouped, bursting, stays, before_group, whole_call}
 use Rattle.expander_model.specs.Held.{Numbered, unnumbered}
 use Rattle.expander_model.specs.PieceStates.{after_group}
-use Rattle.expander_model.specs.Scoping.{Around, Scoped, Search, and_next, at_call, at_key, fitted, in_brackets, kept_call, looked_up, only, unbroken}
+use Rattle.expander_model.specs.Scoping.{Around, Scoped, Search, and_next, at_call, at_key, fitted, in_brackets, kept_call, looked_up, only, scoped, unbroken}
 use Rattle.expander_model.specs.declared.begun.Begun.TheVariants.{Other}
 use Rattle.expander_model.specs.declared.call.Call.{Call}
 use Rattle.expander_model.specs.declared.dialect.ScopeRules.{ScopeRules}

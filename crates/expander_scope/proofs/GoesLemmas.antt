@@ -28,7 +28,7 @@ use Rattle.expander_model.specs.declared.dialect.Standing.TheVariants.{Top, Encl
 use Rattle.expander_model.specs.declared.tree_walk.Around.{Around}
 use Rattle.expander_scope.specs.Expanding.{Adds, deeper_at, searched}
 use Rattle.expander_scope.specs.ListsLeft.{IsAhead, Left, Open, Place, all_left, groups_left, in_list, let_out, list_left, standing_in, then_left}
-use Rattle.expander_scope.specs.LocalTables.{locals_of}
+use Rattle.expander_scope.specs.LocalTables.{AreReadIn, locals_of}
 use Rattle.expander_scope.specs.Turns.{AreNested, Goes, IsAt, IsNoCall, IsPlainAhead, around_of, level_of, left_ahead, argument_left, kept_left, steps_in, turns_left}
 use Rattle.expander_scope.specs.declared.expand.Search.{Search}
 use Rattle.expander_scope.specs.declared.list_walk.Level.{Level}
@@ -126,11 +126,11 @@ module _ (world : World Numbered) (scope : List ℕ → Option Numbered) (depth 
       ∙ left_at_end world scope depth outer p.begun p.standing p.locals p.groups
       ∙ ap (λ l. groups_left world scope depth outer l p.locals) groups
 
-  module _ {S : Type 0} (Has : S → List PlacedStep → Type 0) (old new : Search S) (before after : ListWalk) (p : Place) (at : IsAt before old.locals p) where
+  module _ (edition : Edition) {S : Type 0} (Has : S → List PlacedStep → Type 0) (old new : Search S) (before after : ListWalk) (p : Place) (at : IsAt before old.locals p) where
     -- a leaf was passed
     pub goes_leaf : (l : Leaf) → IsPlainAhead rules p → IsNoCall p → p.here ≡ leaf l after.trees.here → groups_of after.trees ≡ groups_of before.trees
         → after.begun ≡ after_leaf before.begun l → after.standing ≡ before.standing → after.levels ≡ before.levels → new.locals ≡ old.locals
-        → Adds Has old.out new.out (just outer (at_leaf l ∷ [])) → Goes world scope depth outer Has (whole_left p) old new before after
+        → Adds Has old.out new.out (just outer (at_leaf l ∷ [])) → Goes world scope depth outer edition Has (whole_left p) old new before after
     goes_leaf l plain none is groups begun standing levels locals adds = record {
       next = behind_leaf p l after.trees.here;
       at = record {
@@ -145,7 +145,7 @@ module _ (world : World Numbered) (scope : List ℕ → Option Numbered) (depth 
       outcome = just outer (at_leaf l ∷ []);
       is = leaf_left p l after.trees.here plain none is;
       adds = adds;
-      edition = ap (λ (x : Locals). x.edition) locals;
+      read = subst (AreReadIn edition) (sym locals);
       less = omega (arith, ap size (at.here ∙ is), ap steps_in groups);
     }
 
@@ -155,7 +155,7 @@ module _ (world : World Numbered) (scope : List ℕ → Option Numbered) (depth 
         → groups_of after.trees ≡ record { kind = d.kind; close_span = d.close_span; behind = rest } ∷ groups_of before.trees
         → after.levels.items ≡ before.levels.items ++ record { begun = after_group before.begun d.kind; standing = before.standing; locals = length (locals_of old.locals) } ∷ []
         → after.begun ≡ Nothing → after.standing ≡ inside → new.locals ≡ old.locals
-        → Adds Has old.out new.out (just outer (opens d.kind d.open_span ∷ [])) → Goes world scope depth outer Has from old new before after
+        → Adds Has old.out new.out (just outer (opens d.kind d.open_span ∷ [])) → Goes world scope depth outer edition Has from old new before after
     goes_in from inside d rest is from_is groups levels begun standing locals adds = record {
       next = in_it p inside d after.trees.here rest;
       at = record {
@@ -171,16 +171,16 @@ module _ (world : World Numbered) (scope : List ℕ → Option Numbered) (depth 
       outcome = just outer (opens d.kind d.open_span ∷ []);
       is = from_is;
       adds = adds;
-      edition = ap (λ (x : Locals). x.edition) locals;
+      read = subst (AreReadIn edition) (sym locals);
       less = omega (arith, ap size (at.here ∙ is), ap steps_in groups);
     }
 
     -- the innermost group was left
     pub goes_out : (g : Open) (gs : List Open) → p.here ≡ empty → p.groups ≡ g ∷ gs → after.trees.here ≡ g.behind → groups_of after.trees ≡ map around_of gs
         → reverse after.levels.items ≡ map level_of gs → after.begun ≡ g.begun → after.standing ≡ g.standing
-        → locals_of new.locals ≡ let_out g.kind g.locals p.locals → new.locals.edition ≡ old.locals.edition
-        → Adds Has old.out new.out (just outer (closes g.kind g.close_span ∷ [])) → Goes world scope depth outer Has (whole_left p) old new before after
-    goes_out g gs at_end is here groups levels begun standing locals edition adds = record {
+        → locals_of new.locals ≡ let_out g.kind g.locals p.locals → (AreReadIn edition old.locals → AreReadIn edition new.locals)
+        → Adds Has old.out new.out (just outer (closes g.kind g.close_span ∷ [])) → Goes world scope depth outer edition Has (whole_left p) old new before after
+    goes_out g gs at_end is here groups levels begun standing locals read adds = record {
       next = out_of_it p g gs;
       at = record {
         here = here;
@@ -194,17 +194,17 @@ module _ (world : World Numbered) (scope : List ℕ → Option Numbered) (depth 
       outcome = just outer (closes g.kind g.close_span ∷ []);
       is = end_left p g gs at_end is;
       adds = adds;
-      edition = edition;
+      read = read;
       less = omega (arith, ap size (at.here ∙ at_end), ap size here, ap steps_in groups, ap steps_in (at.groups ∙ ap (map around_of) is));
     }
 
     -- a definition was passed
     pub goes_on_behind : (d : Definition) (piece rest : Forest) → rules ≡ Rust → p.begun ≡ Nothing → IsAhead p.here (Some (piece, rest)) → definition_of piece ≡ Some d
         → after.trees.here ≡ rest → groups_of after.trees ≡ groups_of before.trees → after.begun ≡ before.begun → after.standing ≡ before.standing
-        → after.levels ≡ before.levels → locals_of new.locals ≡ d ∷ locals_of old.locals → new.locals.edition ≡ old.locals.edition
+        → after.levels ≡ before.levels → locals_of new.locals ≡ d ∷ locals_of old.locals → (AreReadIn edition old.locals → AreReadIn edition new.locals)
         → Adds Has old.out new.out (defined rules world unnumbered scope (here_in world scope depth outer p.standing p.locals) d).outcome
-        → Goes world scope depth outer Has (whole_left p) old new before after
-    goes_on_behind d piece rest rust nothing ahead is here groups begun standing levels locals edition adds = record {
+        → Goes world scope depth outer edition Has (whole_left p) old new before after
+    goes_on_behind d piece rest rust nothing ahead is here groups begun standing levels locals read adds = record {
       next = record p { here = rest; locals = d ∷ p.locals };
       at = record {
         here = here;
@@ -218,7 +218,7 @@ module _ (world : World Numbered) (scope : List ℕ → Option Numbered) (depth 
       outcome = (defined rules world unnumbered scope (here_in world scope depth outer p.standing p.locals) d).outcome;
       is = defined_left;
       adds = adds;
-      edition = edition;
+      read = read;
       less = omega (arith, ap size at.here, ap size here, ap steps_in groups, ahead.1.1);
     }
       where
@@ -244,30 +244,30 @@ module _ (world : World Numbered) (scope : List ℕ → Option Numbered) (depth 
     pub goes_kept : (beginning from_group : Forest) (mid : Search S) (there : ListWalk) → mid.locals ≡ old.locals
         → turns_left there < suc (turns_left before)
         → Adds Has old.out mid.out (just outer (walk beginning))
-        → Goes world scope depth outer Has (argument_left world scope depth outer (record p { here = from_group; begun = Other }) from_group) mid new there after
-        → Goes world scope depth outer Has (kept_left world scope depth outer beginning from_group p) old new before after
+        → Goes world scope depth outer edition Has (argument_left world scope depth outer (record p { here = from_group; begun = Other }) from_group) mid new there after
+        → Goes world scope depth outer edition Has (kept_left world scope depth outer beginning from_group p) old new before after
     goes_kept beginning from_group mid there locals less adds g = record {
       next = g.next;
       at = g.at;
       outcome = followed_by (just outer (walk beginning)) g.outcome;
       is = ap (then_left (just outer (walk beginning))) g.is ∙ sym (then_assoc (just outer (walk beginning)) g.outcome (whole_left g.next));
       adds = adds_more Has old.out mid.out new.out (just outer (walk beginning)) g.outcome adds g.adds;
-      edition = g.edition ∙ ap (λ (x : Locals). x.edition) locals;
+      read = λ r. g.read (subst (AreReadIn edition) (sym locals) r);
       less = omega (arith, less, g.less);
     }
 
-  module _ {S : Type 0} (Has : S → List PlacedStep → Type 0) where
+  module _ (edition : Edition) {S : Type 0} (Has : S → List PlacedStep → Type 0) where
     -- names were looked up before a turn
     pub goes_looked : (xs : List (List ℕ × Option Numbered)) (from now : Left) (old mid new : Search S) (before after : ListWalk) → from ≡ then_left (looks xs) now
         → ((o : Outcome Numbered) → Adds Has mid.out new.out o → Adds Has old.out new.out (followed_by (looks xs) o)) → mid.locals ≡ old.locals
-        → Goes world scope depth outer Has now mid new before after → Goes world scope depth outer Has from old new before after
+        → Goes world scope depth outer edition Has now mid new before after → Goes world scope depth outer edition Has from old new before after
     goes_looked xs from now old mid new before after is more locals g = record {
       next = g.next;
       at = g.at;
       outcome = followed_by (looks xs) g.outcome;
       is = is ∙ ap (then_left (looks xs)) g.is ∙ sym (then_assoc (looks xs) g.outcome (whole_left g.next));
       adds = more g.outcome g.adds;
-      edition = g.edition ∙ ap (λ (x : Locals). x.edition) locals;
+      read = λ r. g.read (subst (AreReadIn edition) (sym locals) r);
       less = g.less;
     }
 
@@ -280,30 +280,30 @@ module _ (world : World Numbered) (scope : List ℕ → Option Numbered) (depth 
       pub done : Outcome Numbered
       pub is : whole ≡ then_left done (whole_left place)
       pub adds : Adds Has first.out now.out done
-      pub edition : now.locals.edition ≡ first.locals.edition
+      pub read : AreReadIn edition now.locals
 
     pub going_first : (standing : Standing) (trees : Forest) (search : Search S) (w : ListWalk) → w.trees.here ≡ trees → groups_of w.trees ≡ []
-        → w.begun ≡ Nothing → w.standing ≡ standing → reverse w.levels.items ≡ []
+        → w.begun ≡ Nothing → w.standing ≡ standing → reverse w.levels.items ≡ [] → AreReadIn edition search.locals
         → (let a : Scoped Numbered = searched world scope depth (here_in world scope depth outer standing (locals_of search.locals)) trees in
         Going (a.outcome, a.defines ++ locals_of search.locals) search search w)
-    going_first standing trees search w here groups begun standing_is levels = record {
+    going_first standing trees search w here groups begun standing_is levels read = record {
       place = record { here = trees; begun = Nothing; standing = standing; locals = locals_of search.locals; groups = [] };
       at = record { here = here; begun = begun; standing = standing_is; locals = refl; groups = groups; levels = levels; nested = tt };
       done = just outer [];
       is = left_at_beginning world scope depth outer standing (locals_of search.locals) trees;
       adds = adds_just Has search.out search.out outer [] (takes_none Has search.out.output) refl refl;
-      edition = refl;
+      read = read;
     }
 
     pub going_on : (whole : Left) (first old new : Search S) (before after : ListWalk) (g : Going whole first old before)
-        → Goes world scope depth outer Has (whole_left g.place) old new before after → Going whole first new after
+        → Goes world scope depth outer edition Has (whole_left g.place) old new before after → Going whole first new after
     going_on whole first old new before after g t = record {
       place = t.next;
       at = t.at;
       done = followed_by g.done t.outcome;
       is = g.is ∙ ap (then_left g.done) t.is ∙ sym (then_assoc g.done t.outcome (whole_left t.next));
       adds = adds_more Has first.out old.out new.out g.done t.outcome g.adds t.adds;
-      edition = t.edition ∙ g.edition;
+      read = t.read g.read;
     }
 
     -- nothing is left

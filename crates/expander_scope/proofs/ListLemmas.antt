@@ -130,7 +130,7 @@ module _ (world : World Numbered) (scope : List ℕ → Option Numbered) (depth 
   abbrev rules : ScopeRules
   rules = world.dialect.scope
 
-  abbrev here_in : Standing → List Definition → Around
+  abbrev pub here_in : Standing → List Definition → Around
   here_in standing locals = record { standing = standing; outer = outer; locals = locals }
 
   -- trees of a list were passed

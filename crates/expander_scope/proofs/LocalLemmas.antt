@@ -2,28 +2,24 @@
 use Rattle.std.proofs.Common.{◌≡◌, ℕ, List, [], ◌∷◌, map, cond, refl, sym, ap, subst, ◌∙◌, Bool, true, false}
 use Rattle.std.specs.Prelude.{All, Option, Some, None, find, option_map}
 use Rattle.std.specs.Rc.{rc_value}
-use Rattle.std.specs.declared.rc.Rc.{Rc}
 use Rattle.std.proofs.lemmas.List.Elements.{All-head, All-tail}
 use Rattle.small_grammar.specs.Text.{same_text}
 use Rattle.expander_model.specs.Definitions.{Definition, nearest}
 use Rattle.expander_model.specs.Held.{Numbered, unnumbered}
+use Rattle.expander_scope.specs.LocalEntries.{Local}
 use Rattle.expander_scope.specs.Outcomes.{numbered_of_known}
-use Rattle.expander_scope.specs.declared.macro_def.MacroDef.{MacroDef}
 
-abbrev Entry : Type 0
-Entry = List ℕ × Rc MacroDef
-
-abbrev known : Entry → Numbered
+abbrev known : Local → Numbered
 known e = numbered_of_known (rc_value e.1)
 
-abbrev Named : Entry → Type 0
+abbrev Named : Local → Type 0
 Named e = e.0 ≡ (known e).definition.name.sym
 
-abbrev OfList : Entry → Type 0
+abbrev OfList : Local → Type 0
 OfList e = (rc_value e.1).number ≡ 0
 
 -- what a name finds among them
-pub found_is : (es : List Entry) (name : List ℕ) → All Named es → All OfList es
+pub found_is : (es : List Local) (name : List ℕ) → All Named es → All OfList es
     → option_map known (find (λ e. same_text e.0 name) es) ≡ option_map unnumbered (nearest (map (λ e. (known e).definition) es) name)
 found_is [] name named of_lists = refl
 found_is (e ∷ es) name named of_lists =
@@ -37,7 +33,7 @@ found_is (e ∷ es) name named of_lists =
     go false later = later
 
 -- it has what all of them have
-pub found_has : (P : Entry → Type 0) (q : Entry → Bool) (es : List Entry) (e : Entry) → All P es → find q es ≡ Some e → P e
+pub found_has : (P : Local → Type 0) (q : Local → Bool) (es : List Local) (e : Local) → All P es → find q es ≡ Some e → P e
 found_has P q [] e all is = absurd (cc is)
 found_has P q (x ∷ es) e all is = go (q x) is
   where

@@ -14,6 +14,7 @@ pub mod StackEntries
 pub mod NameStacks
 pub mod LocalEntries
 pub mod LocalTables
+pub mod Leaving
 pub mod ListsLeft
 pub mod Turns
 pub mod DefinitionIds

@@ -1,5 +1,5 @@
 -- What is left to search of a list, and of the lists around it, wherever a search of it stands.
-use Rattle.std.specs.Prelude.{◌≡◌, ◌<◌, ◌||◌, ℕ, zero, suc, Bool, false, List, [], ◌∷◌, ◌++◌, Option, Some, None, codes, is_some, if◌then◌else◌}
+use Rattle.std.specs.Prelude.{◌≡◌, ◌<◌, ◌||◌, ℕ, Bool, true, false, List, [], ◌∷◌, ◌++◌, Option, Some, None, codes, is_some, if◌then◌else◌}
 use Rattle.bridge.specs.Text.{is_char, is_visible}
 use Rattle.small_grammar.specs.Text.{has_text}
 use Rattle.tt_data.specs.Forest.{Forest, empty, leaf, group, size}

@@ -6,6 +6,7 @@ use Rattle.tt.specs.FirstTrees.{first_ident, first_punct, first_group}
 use Rattle.tt_data.specs.Forest.{Forest, empty, leaf, group, size}
 use Rattle.tt_data.specs.Walk.{walk}
 use Rattle.tt_data.specs.declared.delimiter.Delimiter.{Delimiter}
+use Rattle.tt_data.specs.declared.edition.Edition.{Edition}
 use Rattle.tt_data.specs.declared.span.Span.{Span}
 use Rattle.mbe.specs.Grammar.{Grammar}
 use Rattle.expander_model.specs.CallSteps.{call_at, call_behind_colons, key_at}
@@ -25,7 +26,7 @@ use Rattle.expander_model.specs.declared.dialect.Standing.TheVariants.{Argument}
 use Rattle.expander_model.specs.declared.tree_walk.Around.{Around}
 use Rattle.expander_scope.specs.Expanding.{Adds, searched, world_under}
 use Rattle.expander_scope.specs.ListsLeft.{IsAhead, Left, Open, Place, all_left, groups_left, in_list, then_left}
-use Rattle.expander_scope.specs.LocalTables.{locals_of}
+use Rattle.expander_scope.specs.LocalTables.{AreReadIn, locals_of}
 use Rattle.expander_scope.specs.ScopeTable.{scope_in}
 use Rattle.expander_scope.specs.declared.expand.Search.{Search}
 use Rattle.expander_scope.specs.declared.list_walk.Level.{Level}
@@ -140,14 +141,14 @@ module _ (world : World Numbered) (scope : List ℕ → Option Numbered) (depth 
 
   -- `Has` tells which events a sink has taken. The search went on from what was left to another
   -- place, and added what comes between
-  pub record Goes {S : Type 0} (Has : S → List PlacedStep → Type 0) (from : Left) (old new : Search S)
-      (before after : ListWalk) : Type 0 where
+  pub record Goes (edition : Edition) {S : Type 0} (Has : S → List PlacedStep → Type 0)
+      (from : Left) (old new : Search S) (before after : ListWalk) : Type 0 where
     pub next : Place
     pub at : IsAt after new.locals next
     pub outcome : Outcome Numbered
     pub is : from ≡ then_left outcome (all_left world scope depth outer next)
     pub adds : Adds Has old.out new.out outcome
-    pub edition : new.locals.edition ≡ old.locals.edition
+    pub read : AreReadIn edition old.locals → AreReadIn edition new.locals
     pub less : turns_left after < turns_left before
 
 -- the same by this grammar and dialect, in the scope of this table
@@ -158,5 +159,5 @@ left_under grammar dialect s depth outer p =
 abbrev pub GoesUnder : Grammar → Dialect → table.Scope → ℕ → Option Span → {S : Type 0}
     → (S → List PlacedStep → Type 0) → Place → Search S → Search S → ListWalk → ListWalk → Type 0
 GoesUnder grammar dialect s depth outer Has p old new before after =
-    Goes (world_under grammar dialect s) (scope_in s) depth outer Has
+    Goes (world_under grammar dialect s) (scope_in s) depth outer s.edition Has
     (left_under grammar dialect s depth outer p) old new before after

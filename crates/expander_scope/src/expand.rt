@@ -21,7 +21,7 @@ ghost use Rattle.textual_scope.specs.Keywords.{HasNoKeyword};
 ghost use Rattle.expander_scope.specs.Editions.{IsRead};
 ghost use Rattle.expander_scope.specs.Expanding.{Adds, Expands, answer, around_in, makes_too_many, searched_under, trees_of, world_under};
 ghost use Rattle.expander_scope.specs.ListsLeft.{IsAhead, Place};
-ghost use Rattle.expander_scope.specs.LocalTables.{locals_of};
+ghost use Rattle.expander_scope.specs.LocalTables.{AreReadIn, locals_of};
 ghost use Rattle.expander_scope.specs.Outcomes.{find_of, numbered_of_known, parts_for, parts_of};
 ghost use Rattle.expander_scope.specs.ScopeTable.{AreRead, expanded_under, scope_in};
 ghost use Rattle.expander_scope.specs.Turns.{BeginsWithGroup, Goes, GoesUnder, IsAt, IsPassable, IsPlainAhead, begun_behind, is_bare, kept_left, left_ahead, left_under, local_at, lookups_of, resolved};
@@ -232,7 +232,8 @@ fn local_of(
 ) -> Result<Option<Rc<MacroDef>>, AllocError>
     ensures found { IfOk result (λ given. option_map (λ k. numbered_of_known k.value) given
         ≡ option_map unnumbered (local_at (locals_of locals.now) trees.now call.now)) }
-    ensures rules { IfOk result (λ given. IfSome given (λ k. IsRead locals.now.edition k.value)) }
+    ensures rules { (edition : Edition) → AreReadIn edition locals.now →
+        IfOk result (λ given. IfSome given (λ k. IsRead edition k.value)) }
 {
     if locals.is_empty() || !is_bare(trees) {
         return Ok(None);
@@ -274,7 +275,7 @@ fn resolve<G, S>(
     call: &Call<'_>,
 ) -> Result<Option<Rc<MacroDef>>, TtFault>
     requires read { AreRead env.now.scope.now }
-    requires edition { search.old.locals.edition ≡ env.now.scope.now.edition }
+    requires locals { AreReadIn env.now.scope.now.edition search.old.locals }
     ensures found { IfOk result (λ given. option_map (λ k. numbered_of_known k.value) given
         ≡ resolved (scope_in env.now.scope.now) (locals_of search.old.locals) trees.now call.now) }
     ensures rules { IfOk result (λ given.
@@ -306,9 +307,9 @@ fn pass_event<S: EventSink>(
     ensures end { IfOk result (λ more. more ≡ false → (search.new ≡ search.old) × ((p : Place) →
         IsAt walk.old search.old.locals p → (p.here ≡ empty) × (p.groups ≡ []))) }
     ensures turn { IfOk result (λ more. more ≡ true → (world : World Numbered) (scope : List ℕ →
-        Option Numbered) (depth : ℕ) (p : Place) → IsAt walk.old search.old.locals p →
-        IsPassable world.dialect.scope is_argument p →
-        Goes world scope depth outer S.has_taken (left_ahead world scope depth outer is_argument p)
+        Option Numbered) (depth : ℕ) (edition : Edition) (p : Place) →
+        IsAt walk.old search.old.locals p → IsPassable world.dialect.scope is_argument p →
+        Goes world scope depth outer edition S.has_taken (left_ahead world scope depth outer is_argument p)
         search.old search.new walk.old walk.new) }
 {
     let Some(step) = walk.trees.next()? else {
@@ -340,9 +341,9 @@ fn keep_call<'a, S: EventSink>(
 ) -> Result<(), AllocError>
     requires { (passed : Forest) × (walk.old.trees.here ≡ joined passed from_group) }
     ensures turn { OnOk result ((world : World Numbered) (scope : List ℕ → Option Numbered)
-        (depth : ℕ) (p : Place) (before : Forest) → IsAt walk.old search.old.locals p →
-        p.here ≡ joined before from_group.entry → BeginsWithGroup from_group.entry →
-        Goes world scope depth outer S.has_taken
+        (depth : ℕ) (edition : Edition) (p : Place) (before : Forest) →
+        IsAt walk.old search.old.locals p → p.here ≡ joined before from_group.entry →
+        BeginsWithGroup from_group.entry → Goes world scope depth outer edition S.has_taken
         (kept_left world scope depth outer before from_group.entry p)
         search.old search.new walk.old walk.new) }
 {
@@ -361,7 +362,6 @@ fn define<G: FragmentGrammar, S: EventSink>(
     piece: &TtIter<'_>,
 ) -> Result<(), TtFault>
     requires definition { is_some (definition_of piece.now) ≡ true }
-    requires edition { search.old.locals.edition ≡ env.now.scope.now.edition }
     ensures adds { OnOk result ((rules : ScopeRules) (d : Definition) (locals : List Definition) →
         definition_of piece.now ≡ Some d → Adds S.has_taken search.old.out search.new.out
         (defined rules (world_under (G.answer env.now.grammar.now) env.now.dialect
@@ -369,7 +369,8 @@ fn define<G: FragmentGrammar, S: EventSink>(
         (record { standing = standing; outer = outer; locals = locals }) d).outcome) }
     ensures locals { OnOk result ((d : Definition) → definition_of piece.now ≡ Some d →
         locals_of search.new.locals ≡ d ∷ locals_of search.old.locals) }
-    ensures edition { OnOk result (search.new.locals.edition ≡ search.old.locals.edition) }
+    ensures read { OnOk result (AreReadIn env.now.scope.now.edition search.old.locals →
+        AreReadIn env.now.scope.now.edition search.new.locals) }
     ensures memory { IsOkUnless result Memory }
 {
     let Some(definition) = definition_of(piece) else {
@@ -431,7 +432,7 @@ fn expand_call<'a, G: FragmentGrammar, S: EventSink>(
 ) -> Result<(), TtFault>
     requires call { call_at walk.old.trees.here ≡ Some call }
     requires read { AreRead env.now.scope.now }
-    requires edition { search.old.locals.edition ≡ env.now.scope.now.edition }
+    requires locals { AreReadIn env.now.scope.now.edition search.old.locals }
     ensures turn { OnOk result ((p : Place) → IsAt walk.old search.old.locals p →
         IsPlainAhead env.now.dialect.scope p → GoesUnder (G.answer env.now.grammar.now)
         env.now.dialect env.now.scope.now env.now.depth outer S.has_taken p
@@ -472,7 +473,7 @@ fn search_list<G: FragmentGrammar, S: EventSink>(
     trees: &TtIter<'_>,
 ) -> Result<(), TtFault>
     requires read { AreRead env.now.scope.now }
-    requires edition { search.old.locals.edition ≡ env.now.scope.now.edition }
+    requires locals { AreReadIn env.now.scope.now.edition search.old.locals }
     ensures adds { OnOk result (Adds S.has_taken search.old.out search.new.out
         (searched_under (G.answer env.now.grammar.now) env.now.dialect env.now.scope.now
         env.now.depth (around_in standing outer search.old.locals) trees.now).outcome) }
@@ -480,7 +481,7 @@ fn search_list<G: FragmentGrammar, S: EventSink>(
         ≡ (searched_under (G.answer env.now.grammar.now) env.now.dialect env.now.scope.now
         env.now.depth (around_in standing outer search.old.locals) trees.now).defines
         ++ locals_of search.old.locals) }
-    ensures edition { OnOk result (search.new.locals.edition ≡ search.old.locals.edition) }
+    ensures read { OnOk result (AreReadIn env.now.scope.now.edition search.new.locals) }
     ensures tokens { result ≡ Err TtFault.Tokens →
         (searched_under (G.answer env.now.grammar.now) env.now.dialect env.now.scope.now
         env.now.depth (around_in standing outer search.old.locals) trees.now).outcome.bursts
@@ -581,7 +582,7 @@ pub fn expand_into<G: FragmentGrammar, S: EventSink>(
             faults: Vec::new(env.alloc),
             finds: Vec::new(env.alloc),
         },
-        locals: Locals::new(env.alloc, env.scope.edition),
+        locals: Locals::new(env.alloc),
     };
     search_list(env, None, &mut search, Standing::Top, &tree.iter())?;
     Ok(search.out)

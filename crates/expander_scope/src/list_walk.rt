@@ -1,11 +1,11 @@
 //! A traversal of a list and of those in its groups that knows where their pieces begin.
-ghost use Rattle.std.specs.Prelude.{◌≡◌, ◌≢◌, ◌++◌, ◌∷◌, [], ◌<◌, List, IfOk, OnOk, length};
-ghost use Rattle.bridge.specs.Text.{is_visible};
-ghost use Rattle.expander_model.specs.Definitions.{Definition};
+ghost use Rattle.std.specs.Prelude.{◌≡◌, ◌++◌, ◌∷◌, [], List, OnOk, reverse};
+ghost use Rattle.tt_data.specs.declared.edition.Edition.{Edition};
 ghost use Rattle.expander_model.specs.PieceStates.{after_group};
-ghost use Rattle.expander_model.specs.Scoping.{in_group};
+ghost use Rattle.expander_model.specs.WalkSteps.{groups_of};
+ghost use Rattle.expander_scope.specs.Leaving.{Leaves};
 ghost use Rattle.expander_scope.specs.ListsLeft.{IsAhead, can_begin, standing_in};
-ghost use Rattle.expander_scope.specs.LocalTables.{locals_of};
+ghost use Rattle.expander_scope.specs.LocalTables.{AreReadIn};
 
 use crate::locals::Locals;
 use expander_model::begun::Begun;
@@ -41,7 +41,13 @@ pub(crate) struct ListWalk<'a> {
 
 impl<'a> ListWalk<'a> {
     /// A traversal at the beginning of a list.
-    pub fn new(alloc: Global, trees: &TtIter<'a>, standing: Standing) -> Self {
+    pub fn new(alloc: Global, trees: &TtIter<'a>, standing: Standing) -> Self
+        ensures here { result.trees.here ≡ trees.now }
+        ensures groups { groups_of result.trees ≡ [] }
+        ensures levels { reverse result.levels.items ≡ [] }
+        ensures begun { result.begun ≡ Begun.Nothing }
+        ensures standing { result.standing ≡ standing }
+    {
         ListWalk {
             trees: TreeWalk::new(alloc, trees),
             levels: Vec::new(alloc),
@@ -79,7 +85,14 @@ impl<'a> ListWalk<'a> {
     }
 
     /// A group of this kind was left: what a visible one defines ends with it.
-    pub fn leave(&mut self, kind: DelimiterKind, locals: &mut Locals) {
+    pub fn leave(&mut self, kind: DelimiterKind, locals: &mut Locals)
+        ensures trees { self.new.trees ≡ self.old.trees }
+        ensures level { (level : Level) (rest : List Level) →
+            reverse self.old.levels.items ≡ level ∷ rest →
+            Leaves kind level rest locals.old self.new locals.new }
+        ensures read { (edition : Edition) → AreReadIn edition locals.old →
+            AreReadIn edition locals.new }
+    {
         let Some(level) = self.levels.pop() else {
             return;
         };

@@ -1,21 +1,18 @@
 //! The definitions of the lists around a place.
-ghost use Rattle.expander_scope.specs.LocalEntries.{AreNamed, AreOfLists, AreReadIn};
+ghost use Rattle.expander_scope.specs.LocalEntries.{AreNamed, AreOfLists};
 
 use crate::macro_def::MacroDef;
 use crate::name_stack::NameStack;
 use std::alloc::{AllocError, Global};
 use std::rc::Rc;
-use tt_data::{Edition, Symbol};
+use tt_data::Symbol;
 
 /// The definitions of the lists around a place: a name finds the nearest.
 #[derive(Drop)]
 pub(crate) struct Locals {
-    // The edition of their identifiers, but for those whose mark says another.
-    edition: Edition,
     names: NameStack<Rc<MacroDef>>,
     ghost named: { AreNamed names },
     ghost of_lists: { AreOfLists names },
-    ghost read: { AreReadIn edition names },
 }
 
 impl Locals {
@@ -23,16 +20,16 @@ impl Locals {
     ghost use Rattle.expander_model.specs.Definitions.{Definition, nearest};
     ghost use Rattle.expander_model.specs.Held.{unnumbered};
     ghost use Rattle.expander_scope.specs.Editions.{IsRead};
-    ghost use Rattle.expander_scope.specs.LocalTables.{locals_of};
+    ghost use Rattle.expander_scope.specs.LocalTables.{AreReadIn, locals_of};
+    ghost use Rattle.tt_data.specs.declared.edition.Edition.{Edition};
     ghost use Rattle.expander_scope.specs.Outcomes.{numbered_of_known};
 
     /// No definition.
-    pub fn new(alloc: Global, edition: Edition) -> Self
+    pub fn new(alloc: Global) -> Self
         ensures none { locals_of result ≡ [] }
-        ensures edition { result.edition ≡ edition }
+        ensures read { (edition : Edition) → AreReadIn edition result }
     {
         Locals {
-            edition,
             names: NameStack::new(alloc),
         }
     }
@@ -55,7 +52,8 @@ impl Locals {
     pub fn find(&self, name: &Symbol) -> Option<&Rc<MacroDef>>
         ensures found { option_map (λ k. numbered_of_known k.now.value) result
             ≡ option_map unnumbered (nearest (locals_of self.now) name.now) }
-        ensures rules { IfSome result (λ k. IsRead self.now.edition k.now.value) }
+        ensures rules { (edition : Edition) → AreReadIn edition self.now →
+            IfSome result (λ k. IsRead edition k.now.value) }
     {
         self.names.find(name)
     }
@@ -63,10 +61,10 @@ impl Locals {
     /// Adds a definition of a list: it is the nearest from now on.
     pub fn push(&mut self, known: Rc<MacroDef>) -> Result<(), AllocError>
         requires number { known.value.number ≡ 0 }
-        requires rules { IsRead self.old.edition known.value }
         ensures locals { OnOk result (locals_of self.new
             ≡ (numbered_of_known known.value).definition ∷ locals_of self.old) }
-        ensures edition { self.new.edition ≡ self.old.edition }
+        ensures read { OnOk result ((edition : Edition) → IsRead edition known.value →
+            AreReadIn edition self.old → AreReadIn edition self.new) }
     {
         let Ok(name) = known.as_ref().name.clone() else {
             unreachable!()
@@ -78,7 +76,8 @@ impl Locals {
     pub fn cut_back(&mut self, len: usize)
         ensures locals { (front back : List Definition) → locals_of self.old ≡ front ++ back →
             length back ≡ len → locals_of self.new ≡ back }
-        ensures edition { self.new.edition ≡ self.old.edition }
+        ensures read { (edition : Edition) → AreReadIn edition self.old →
+            AreReadIn edition self.new }
     {
         self.names.cut_back(len);
     }

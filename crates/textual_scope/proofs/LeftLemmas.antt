@@ -435,7 +435,7 @@ module _ (name : Ident) (bang : Punct) (d : Delimiter) (inner : Forest) where
       → marked (call_before (other p q) rest) ≡ call (other p q) name bang d (marked inner) (marked rest)
   marked-other p q rest h k = ap (λ m. mark_leaf (as_leaf.Punct p) (mark_leaf (as_leaf.Punct q) m)) (marked-bare rest h) ∙ rw k refl
 
-  marked-call : (path : Path) (rest : Forest) → AreOfCall path bang d → marked (call_before path rest) ≡ call path name bang d (marked inner) (marked rest)
+  pub marked-call : (path : Path) (rest : Forest) → AreOfCall path bang d → marked (call_before path rest) ≡ call path name bang d (marked inner) (marked rest)
   marked-call bare rest h = marked-bare rest h
   marked-call (other p q) rest h = marked-other p q rest h.0 h.1
   marked-call (from_crate root p q) rest h = ap (mark_leaf (as_leaf.Ident root)) (marked-other p q rest h.0 h.1) ∙ rw h.2 refl

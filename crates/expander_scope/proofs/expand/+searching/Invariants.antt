@@ -1,21 +1,22 @@
-use Rattle.std.proofs.Common.{◌+◌, ◌*◌}
-use Rattle.expander_model.specs.Held.{numbered_world}
+use Rattle.std.proofs.Common.{◌+◌, ◌*◌, ◌++◌}
+use Rattle.expander_scope.specs.Expanding.{around_in, searched_under, world_under}
+use Rattle.expander_scope.specs.LocalTables.{locals_of}
 use Rattle.expander_scope.specs.ScopeTable.{scope_in}
-use Rattle.expander_scope.specs.Expanding.{searched}
-use Rattle.expander_model.specs.World.{world}
-use Rattle.expander_model.specs.WalkSteps.{groups_of}
-use Rattle.expander_scope.proofs.CallResultLemmas.{Going}
-use Rattle.expander_scope.proofs.OutcomeLemmas.{work_of}
+use Rattle.expander_scope.specs.Turns.{turns_left}
+use Rattle.expander_scope.proofs.GoesLemmas.{Going}
 use Rattle.expander_scope.proofs.expand.+searching.Given as goal
 
 abbrev pub decreases-expand_call : goal.decreases-expand_call
 decreases-expand_call g l = 2 * l.env.now.depth
 
-abbrev pub decreases-search : goal.decreases-search
-decreases-search g l = 2 * l.env.now.depth + 1
+abbrev pub decreases-search_list : goal.decreases-search_list
+decreases-search_list g l = 2 * l.env.now.depth + 1
 
-abbrev pub invariant-search-turns : goal.invariant-search-turns
-invariant-search-turns g l = Going g.S.EventSink.has_taken l.outer (searched (numbered_world (world (g.G.FragmentGrammar.answer l.env.grammar.now) l.env.scope.now.edition)) (scope_in l.env.scope.now) l.env.depth l.outer) l.trees l.initial.out l.out l.walk
+abbrev pub invariant-search_list-turns : goal.invariant-search_list-turns
+invariant-search_list-turns g l =
+    let a = searched_under (g.G.FragmentGrammar.answer l.env.grammar.now) l.env.dialect l.env.scope.now l.env.depth (around_in l.standing l.outer l.initial.search.locals) l.trees in
+    Going (world_under (g.G.FragmentGrammar.answer l.env.grammar.now) l.env.dialect l.env.scope.now) (scope_in l.env.scope.now) l.env.depth l.outer l.env.scope.now.edition
+    g.S.EventSink.has_taken (a.outcome, a.defines ++ locals_of l.initial.search.locals) l.initial.search l.search l.walk
 
-abbrev pub decreases-search-turns : goal.decreases-search-turns
-decreases-search-turns g l = work_of l.walk.here (groups_of l.walk)
+abbrev pub decreases-search_list-turns : goal.decreases-search_list-turns
+decreases-search_list-turns g l = turns_left l.walk
