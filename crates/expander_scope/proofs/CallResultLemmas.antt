@@ -141,6 +141,14 @@ deep d world depth argument g e =
     (comes_is world (λ name. None) world.dialect.scope d (record { standing = Argument; outer = None; locals = [] })
     (record { at = d.definition.name.span; whole = argument; argument = argument }) depth g e).0
 
+-- what a list around it answers is no look-up
+pub no_lookup : (scope : List ℕ → Option Numbered) (locals : List Definition) (f : Forest) (c : Call) (d : Numbered) → Some d ≡ option_map unnumbered (local_at locals f c) → lookups_of scope locals f c ≡ []
+no_lookup scope locals f c d is = go (local_at locals f c) is
+  where
+    go : (o : Option Definition) → Some d ≡ option_map unnumbered o → (if is_some o then [] else (key_at f c, scope (key_at f c)) ∷ []) ≡ []
+    go None is = absurd (cc is)
+    go (Some x) is = refl
+
 -- ---- what a call finds
 
 module _ (world : World Numbered) (scope : List ℕ → Option Numbered) (depth : ℕ) where

@@ -18,7 +18,12 @@ use Rattle.expander_model.specs.Held.{Numbered, unnumbered}
 use Rattle.expander_model.specs.PieceStates.{after_leaf, after_group}
 use Rattle.expander_model.specs.Pieces.{cut}
 use Rattle.expander_model.specs.Scoping.{Around as Surroundings, Scoped, and_next, defined, in_brackets, in_group, only}
-use Rattle.expander_model.specs.WalkSteps.{groups_of}
+use Rattle.expander_model.specs.WalkSteps.{Enters, GoesOn, groups_of}
+use Rattle.expander_model.specs.declared.tree_walk.TreeWalk.{TreeWalk}
+use Rattle.bridge.specs.TokenEvents.{step_of}
+use Rattle.bridge.specs.declared.printing.event.TokenEvent.TheVariants as as_step
+use Rattle.tt_data.specs.Lent.{leaf_lent}
+use Rattle.tt_data.specs.declared.leaf.lent.LeafRef.{LeafRef}
 use Rattle.expander_model.specs.declared.begun.Begun.{Begun}
 use Rattle.expander_model.specs.declared.begun.Begun.TheVariants.{Nothing, Other}
 use Rattle.expander_model.specs.declared.dialect.ScopeRules.{ScopeRules}
@@ -28,8 +33,9 @@ use Rattle.expander_model.specs.declared.dialect.Standing.TheVariants.{Top, Encl
 use Rattle.expander_model.specs.declared.tree_walk.Around.{Around}
 use Rattle.expander_scope.specs.Expanding.{Adds, deeper_at, searched}
 use Rattle.expander_scope.specs.ListsLeft.{IsAhead, Left, Open, Place, all_left, groups_left, in_list, let_out, list_left, standing_in, then_left}
+use Rattle.expander_scope.specs.Leaving.{Leaves}
 use Rattle.expander_scope.specs.LocalTables.{AreReadIn, locals_of}
-use Rattle.expander_scope.specs.Turns.{AreNested, Goes, IsAt, IsNoCall, IsPlainAhead, around_of, level_of, left_ahead, argument_left, kept_left, steps_in, turns_left}
+use Rattle.expander_scope.specs.Turns.{AreNested, BeginsWithGroup, Goes, IsAt, IsNoCall, IsPassable, IsPlainAhead, begun_behind, lookups_of, resolved, around_of, level_of, left_ahead, argument_left, kept_left, steps_in, turns_left}
 use Rattle.expander_scope.specs.declared.expand.Search.{Search}
 use Rattle.expander_scope.specs.declared.list_walk.Level.{Level}
 use Rattle.expander_scope.specs.declared.list_walk.ListWalk.{ListWalk}
@@ -239,6 +245,77 @@ module _ (world : World Numbered) (scope : List ℕ → Option Numbered) (depth 
         defined_left : whole_left p ≡ then_left a.outcome (whole_left (record p { here = rest; locals = d ∷ p.locals }))
         defined_left =
             passed_in world scope depth outer p.begun p.begun p.standing p.locals p.here rest a (groups_left world scope depth outer p.groups) (list_is rules p.begun rust nothing)
+
+    -- ---- by the events of a traversal
+
+    no_group : (f : Forest) (l : Leaf) (rest : Forest) → BeginsWithGroup f → f ≡ leaf l rest → ⊥
+    no_group f l rest begins is = let both : leaf l rest ≡ group begins.0 begins.1.0 begins.1.1.0 = sym is ∙ begins.1.1.1 in cc both
+
+    not_at_end : (f : Forest) → BeginsWithGroup f → f ≡ empty → ⊥
+    not_at_end f begins is = let both : empty ≡ group begins.0 begins.1.0 begins.1.1.0 = sym is ∙ begins.1.1.1 in cc both
+
+    pub passes_leaf : (b : Bool) → IsPassable rules b p → (l : LeafRef) → GoesOn before.trees (Some (as_step.Leaf l)) after.trees
+        → after.begun ≡ after_leaf before.begun (leaf_lent l) → after.standing ≡ before.standing → after.levels ≡ before.levels → new.locals ≡ old.locals
+        → Adds Has old.out new.out (just outer (step_of (as_step.Leaf l) ∷ [])) → Goes world scope depth outer edition Has (left_ahead world scope depth outer b p) old new before after
+    passes_leaf true begins l e begun standing levels locals adds = absurd (no_group p.here (leaf_lent l) after.trees.here begins (sym at.here ∙ e.0))
+    passes_leaf false pass l e begun standing levels locals adds =
+        goes_leaf (leaf_lent l) pass.0 pass.1 (sym at.here ∙ e.0) e.1 begun standing levels locals adds
+
+    entered_from : (b : Bool) → IsPassable rules b p → (d : Delimiter) (inner rest : Forest) → p.here ≡ group d inner rest
+        → left_ahead world scope depth outer b p ≡ then_left (just outer (opens d.kind d.open_span ∷ [])) (whole_left (in_it p (if b then Argument else standing_in d.kind p.standing) d inner rest))
+    entered_from true begins d inner rest is = ap (argument_left world scope depth outer p) is ∙ argument_is p d inner rest
+    entered_from false pass d inner rest is = group_left p d inner rest pass.0 is
+
+    pub passes_in : (b : Bool) → IsPassable rules b p → (kind : DelimiterKind) (span : Span) (mid : TreeWalk) → Enters kind span before.trees mid → after.trees ≡ mid → (n : ℕ) → n ≡ length (locals_of old.locals)
+        → after.levels.items ≡ before.levels.items ++ record { begun = after_group before.begun kind; standing = before.standing; locals = n } ∷ []
+        → after.begun ≡ Nothing → after.standing ≡ (if b then Argument else standing_in kind before.standing) → new.locals ≡ old.locals
+        → Adds Has old.out new.out (just outer (opens kind span ∷ [])) → Goes world scope depth outer edition Has (left_ahead world scope depth outer b p) old new before after
+    passes_in b pass kind span mid e trees n counted levels begun standing locals adds =
+        let d : Delimiter = e.brackets in
+        let here : after.trees.here ≡ mid.here = ap (λ (t : TreeWalk). t.here) trees in
+        let is : p.here ≡ group d after.trees.here e.behind = sym at.here ∙ e.first ∙ ap (λ f. group d f e.behind) (sym here) in
+        goes_in (left_ahead world scope depth outer b p) (if b then Argument else standing_in d.kind p.standing) d e.behind is
+        (entered_from b pass d after.trees.here e.behind is)
+        (ap groups_of trees ∙ e.groups ∙ ap (λ k. record { kind = k; close_span = d.close_span; behind = e.behind } ∷ groups_of before.trees) (sym e.kind_is))
+        (levels ∙ (λ i. before.levels.items ++ record { begun = after_group before.begun (sym e.kind_is i); standing = before.standing; locals = counted i } ∷ []))
+        begun
+        (standing ∙ (λ i. if b then Argument else standing_in (sym e.kind_is i) (at.standing i)))
+        locals
+        (subst (λ k. Adds Has old.out new.out (just outer (opens k d.open_span ∷ []))) (sym e.kind_is)
+        (subst (λ x. Adds Has old.out new.out (just outer (opens kind x ∷ []))) (sym e.span_is) adds))
+
+    split_open : (gs : List Open) (a : Around) (rest : List Around) → map around_of gs ≡ a ∷ rest
+        → (g : Open) × (more : List Open) × (gs ≡ g ∷ more) × (around_of g ≡ a) × (map around_of more ≡ rest)
+    split_open [] a rest is = absurd (cc is)
+    split_open (g ∷ more) a rest is =
+        (g, more, refl, (let one : around_of g ≡ a = cc is in one), (let others : map around_of more ≡ rest = cc is in others))
+
+    pub passes_out : (b : Bool) → IsPassable rules b p → (kind : DelimiterKind) (span : Span) (mid : TreeWalk) → before.trees.here ≡ empty
+        → groups_of before.trees ≡ record { kind = kind; close_span = span; behind = mid.here } ∷ groups_of mid → after.trees ≡ mid
+        → ((level : Level) (rest : List Level) → reverse before.levels.items ≡ level ∷ rest → Leaves kind level rest old.locals after new.locals)
+        → (AreReadIn edition old.locals → AreReadIn edition new.locals)
+        → Adds Has old.out new.out (just outer (closes kind span ∷ [])) → Goes world scope depth outer edition Has (left_ahead world scope depth outer b p) old new before after
+    passes_out true begins kind span mid at_end groups trees leaves read adds = absurd (not_at_end p.here begins (sym at.here ∙ at_end))
+    passes_out false pass kind span mid at_end groups trees leaves read adds =
+        let (g, gs, is, first, others) = split_open p.groups (record { kind = kind; close_span = span; behind = mid.here }) (groups_of mid) (sym at.groups ∙ groups) in
+        let l : Leaves kind (level_of g) (map level_of gs) old.locals after new.locals =
+        leaves (level_of g) (map level_of gs) (at.levels ∙ ap (map level_of) is) in
+        let kind_is : g.kind ≡ kind = ap (λ (a : Around). a.kind) first in
+        goes_out g gs (sym at.here ∙ at_end) is
+        (ap (λ (t : TreeWalk). t.here) trees ∙ sym (ap (λ (a : Around). a.behind) first))
+        (ap groups_of trees ∙ sym others) l.levels l.begun l.standing
+        (subst (λ k. locals_of new.locals ≡ let_out k g.locals p.locals) (sym kind_is) (out_by g (subst (AreNested p.locals) is at.nested).0 kind l))
+        read
+        (subst (λ k. Adds Has old.out new.out (just outer (closes k g.close_span ∷ []))) (sym kind_is)
+        (subst (λ x. Adds Has old.out new.out (just outer (closes kind x ∷ []))) (sym (ap (λ (a : Around). a.close_span) first)) adds))
+      where
+        out_by : (g : Open) → (front : List Definition) × (p.locals ≡ front ++ g.locals) → (k : DelimiterKind) → {rest : List Level} → Leaves k (level_of g) rest old.locals after new.locals
+            → locals_of new.locals ≡ let_out k g.locals p.locals
+        out_by g nested k l = go (is_visible k) refl
+          where
+            go : (v : Bool) → is_visible k ≡ v → locals_of new.locals ≡ (if v then g.locals else p.locals)
+            go true e = l.cut_back e nested.0 g.locals (at.locals ∙ nested.1) refl
+            go false e = ap locals_of (l.let_out e) ∙ at.locals
 
     -- the tokens before the group of a call that stays were emitted, and then the group was entered
     pub goes_kept : (beginning from_group : Forest) (mid : Search S) (there : ListWalk) → mid.locals ≡ old.locals

@@ -23,6 +23,8 @@ use Rattle.expander_model.specs.declared.dialect.Dialect.{Dialect}
 use Rattle.expander_model.specs.declared.dialect.ScopeRules.{ScopeRules}
 use Rattle.expander_model.specs.declared.dialect.ScopeRules.TheVariants.{Rust}
 use Rattle.expander_model.specs.declared.dialect.Standing.TheVariants.{Argument}
+use Rattle.expander_model.specs.declared.fault.FaultKind.{FaultKind}
+use Rattle.expander_model.specs.declared.fault.FaultKind.TheVariants.{BrokenDefinition}
 use Rattle.expander_model.specs.declared.tree_walk.Around.{Around}
 use Rattle.expander_scope.specs.Expanding.{Adds, searched, world_under}
 use Rattle.expander_scope.specs.ListsLeft.{IsAhead, Left, Open, Place, all_left, groups_left, in_list, then_left}
@@ -62,6 +64,10 @@ abbrev pub begun_behind : Forest → Begun
 begun_behind f = unwrap_or (do
   (d, inner, rest) ← first_group f
   Some (after_group begun.Other d.kind)) begun.Other
+
+-- the fault of a definition that is invalid, at this place
+abbrev pub broken_at : Bool → Span → List (FaultKind × Span)
+broken_at broken at = if broken then (BrokenDefinition, at) ∷ [] else []
 
 -- ---- where a search stands
 

@@ -1,6 +1,6 @@
 //! Expands a tree with piece-relative spans: expands its calls from left to right, and searches
 //! each result for further calls.
-ghost use Rattle.std.specs.Prelude.{◌≡◌, ◌-◌, ◌<◌, ℕ, ◌++◌, ◌∷◌, [], List, length, map, true, false, IfOk, IfNone, IfSome, IsOkUnless, OnOk, Option, Some, None, Err, is_some, option_map};
+ghost use Rattle.std.specs.Prelude.{◌≡◌, ◌-◌, ◌<◌, ℕ, ◌++◌, ◌∷◌, [], List, length, map, true, false, IfOk, IfNone, IfSome, IsOkUnless, OnOk, Option, Some, None, Err, is_some, option_map, if◌then◌else◌};
 ghost use Rattle.mbe.specs.Bursts as made_by;
 ghost use Rattle.mbe.specs.Macros.{rules_of};
 ghost use Rattle.mbe.specs.Markers.{is_name};
@@ -15,7 +15,7 @@ ghost use Rattle.expander_model.specs.CallSteps.{call_at};
 ghost use Rattle.expander_model.specs.Definitions.{Definition, definition_of};
 ghost use Rattle.expander_model.specs.Expansion.{Deeper, World, just, placed, search_calls};
 ghost use Rattle.expander_model.specs.Held.{Numbered, numbered_world, unnumbered};
-ghost use Rattle.expander_model.specs.Scoping.{defined};
+ghost use Rattle.expander_model.specs.Scoping.{defined, is_left_out};
 ghost use Rattle.expander_model.specs.World.{fit_of, made, world};
 ghost use Rattle.textual_scope.specs.Keywords.{HasNoKeyword};
 ghost use Rattle.expander_scope.specs.Editions.{IsRead};
@@ -23,8 +23,9 @@ ghost use Rattle.expander_scope.specs.Expanding.{Adds, Expands, answer, around_i
 ghost use Rattle.expander_scope.specs.ListsLeft.{IsAhead, Place};
 ghost use Rattle.expander_scope.specs.LocalTables.{AreReadIn, locals_of};
 ghost use Rattle.expander_scope.specs.Outcomes.{find_of, numbered_of_known, parts_for, parts_of};
+ghost use Rattle.expander_scope.specs.Sinks.{TakesMore};
 ghost use Rattle.expander_scope.specs.ScopeTable.{AreRead, expanded_under, scope_in};
-ghost use Rattle.expander_scope.specs.Turns.{BeginsWithGroup, Goes, GoesUnder, IsAt, IsPassable, IsPlainAhead, begun_behind, is_bare, kept_left, left_ahead, left_under, local_at, lookups_of, resolved};
+ghost use Rattle.expander_scope.specs.Turns.{BeginsWithGroup, Goes, GoesUnder, IsAt, IsPassable, IsPlainAhead, begun_behind, broken_at, is_bare, kept_left, left_ahead, left_under, local_at, lookups_of, resolved};
 
 use crate::event_sink::{EventSink, take_walk};
 use crate::list_walk::{ListWalk, definition_ahead, standing_in};
@@ -353,6 +354,38 @@ fn keep_call<'a, S: EventSink>(
     Ok(())
 }
 
+// Adds a fault for a definition that is invalid.
+fn tell_broken(
+    faults: &mut Vec<(FaultKind, Span)>,
+    known: &MacroDef,
+    at: Span,
+) -> Result<(), AllocError>
+    ensures { OnOk result (faults.new.items ≡ faults.old.items
+        ++ broken_at (is_some (rules_of known.now.rules).err) at) }
+{
+    match known.rules.err() {
+        Some(_) => push_told(faults, FaultKind::BrokenDefinition, at),
+        None => Ok(()),
+    }
+}
+
+// Emits a definition of a list, where it is not left out.
+fn show_definition<S: EventSink>(
+    alloc: Global,
+    outer: Option<Span>,
+    output: &mut S,
+    standing: Standing,
+    piece: &TtIter<'_>,
+) -> Result<(), AllocError>
+    ensures { OnOk result (TakesMore S.has_taken output.old output.new
+        (placed outer (if is_left_out standing then [] else walk piece.now))) }
+{
+    match standing {
+        Standing::Enclosed => Ok(()),
+        _ => take_walk(alloc, output, piece, outer),
+    }
+}
+
 // A definition of a list enters the scope. It is printed where it is not left out.
 fn define<G: FragmentGrammar, S: EventSink>(
     env: &Environment<'_, G>,
@@ -378,13 +411,8 @@ fn define<G: FragmentGrammar, S: EventSink>(
     };
     let place = definition.name.span;
     let known = MacroDef::in_list(env.alloc, env.scope.edition, piece, place)?;
-    if known.rules.err().is_some() {
-        let at = outer.unwrap_or(place);
-        push_told(&mut search.out.faults, FaultKind::BrokenDefinition, at)?;
-    }
-    if standing != Standing::Enclosed {
-        take_walk(env.alloc, &mut search.out.output, piece, outer)?;
-    }
+    tell_broken(&mut search.out.faults, &known, outer.unwrap_or(place))?;
+    show_definition(env.alloc, outer, &mut search.out.output, standing, piece)?;
     match Rc::new(env.alloc, known) {
         Ok(known) => search.locals.push(known)?,
         Err(_) => return Err(TtFault::Memory),

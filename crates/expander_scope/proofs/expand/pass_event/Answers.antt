@@ -1,0 +1,20 @@
+use Rattle.std.proofs.Common.{[], ◌∷◌, refl}
+use Rattle.std.specs.Prelude.{Some}
+use Rattle.bridge.specs.TokenEvents.{step_of}
+use Rattle.bridge.specs.declared.printing.event.TokenEvent.TheVariants as as_step
+use Rattle.expander_model.specs.WalkSteps.{GoesOn}
+use Rattle.expander_scope.proofs.CallResultLemmas.{adds_just}
+use Rattle.expander_scope.proofs.GoesLemmas.{passes_leaf, passes_in, passes_out}
+use Rattle.expander_scope.proofs.expand.pass_event.Goals as goal
+
+pub returns-in-Leaf-clause-turn : goal.returns-in-Leaf-clause-turn
+returns-in-Leaf-clause-turn g c = λ so world scope depth edition p at pass.
+    passes_leaf world scope depth c.args.outer edition g.S.EventSink.has_taken c.args.search.now _ c.args.walk.now _ p at c.args.is_argument pass c.in-Leaf.leaf
+    (rw (c.in-Some.is, c.in-Leaf.is) at c.in_ok-step.ensures) c.with_leaf-walk.ensures refl refl refl
+    (adds_just g.S.EventSink.has_taken c.args.search.now.out _ c.args.outer (step_of (as_step.Leaf c.in-Leaf.leaf) ∷ []) (rw c.in-Leaf.is at c.in_ok-take.ensures) refl refl)
+
+pub returns-in_ok-enter-in-Opens-clause-turn : goal.returns-in_ok-enter-in-Opens-clause-turn
+returns-in_ok-enter-in-Opens-clause-turn g c = λ so world scope depth edition p at pass. ?
+
+pub returns-in-Closes-clause-turn : goal.returns-in-Closes-clause-turn
+returns-in-Closes-clause-turn g c = λ so world scope depth edition p at pass. ?
