@@ -32,7 +32,6 @@ pub record Changes {D E : Type 0} (f : Span → Span) (h : D → E) (one : World
   pub broken : (d : D) → two.broken (h d) ≡ one.broken d
   pub fit : (d : D) (a : Forest) → two.fit (h d) (map_spans f a) ≡ option_map (map_spans f) (one.fit d a)
   pub bursts : (d : D) (a : Forest) → two.bursts (h d) (map_spans f a) ≡ one.bursts d a
-  pub dialect : two.dialect ≡ one.dialect
 
 -- h is applied to what each name resolves to
 abbrev pub ScopeChange : {D E : Type 0} → (D → E) → (List ℕ → Option D) → (List ℕ → Option E) → Type 0

@@ -8,8 +8,7 @@ use Rattle.tt_data.specs.declared.span.Span.{Span}
 use Rattle.tt_data.specs.declared.span.SyntaxContext.TheVariants.{Written}
 use Rattle.expander_model.specs.Changes.{outcome_with}
 use Rattle.expander_model.specs.Definitions.{Definition, definition_of}
-use Rattle.expander_model.specs.Expansion.{World, Outcome}
-use Rattle.expander_model.specs.Scoping.{expanded}
+use Rattle.expander_model.specs.Expansion.{World, Outcome, expansion}
 use Rattle.expander_model.specs.Meaning.{Member, plain, defining}
 use Rattle.expander_model.specs.OtherPlaces.{definition_with}
 use Rattle.expander_model.specs.Pieces.{first_start, relative}
@@ -68,6 +67,10 @@ pub record Numbered : Type 0 where
   pub number : ℕ
   pub definition : Definition
 
+-- a definition in a list: it has no id
+abbrev pub unnumbered : Definition → Numbered
+unnumbered d = record { number = 0; definition = d }
+
 -- a definition in scope: the place where it starts, and what it is
 pub record Met : Type 0 where
   pub place : Place
@@ -83,12 +86,7 @@ numbered_world world = record {
   broken = λ d. world.broken (anchored_definition d);
   fit = λ d argument. world.fit (anchored_definition d) argument;
   bursts = λ d argument. world.bursts (anchored_definition d) argument;
-  dialect = world.dialect;
 }
-
--- a definition in a list: it has no id
-abbrev pub unnumbered : Definition → Numbered
-unnumbered d = record { number = 0; definition = d }
 
 -- what a name resolves to among the definitions before, which are given nearest first
 abbrev pub nearest_met : List Met → List ℕ → Option Met
@@ -154,8 +152,7 @@ module _ (world : World Definition) (depth : ℕ) (number_of : Forest → ℕ) w
   abbrev pub kept_of : List Met → Forest → Option Definition → Kept
   kept_of before piece (Some d) = met (met_of piece d)
   kept_of before piece None =
-      kept (first_start piece) before (relative piece)
-      (expanded (numbered_world world) unnumbered (numbered_scope before) depth (relative piece))
+      kept (first_start piece) before (relative piece) (expansion (numbered_world world) (numbered_scope before) depth None (relative piece))
 
   -- the pieces in order, each in the scope of the definitions before it, given nearest first
   abbrev pub kept_after : List Met → List Forest → List Kept

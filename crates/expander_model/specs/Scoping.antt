@@ -13,10 +13,10 @@ use Rattle.expander_model.specs.Calls.{Path, bare, from_crate, other, Marked, no
 use Rattle.expander_model.specs.Definitions.{Definition, definition_of, nearest}
 use Rattle.expander_model.specs.Expansion.{World, Outcome, CallSite, just, followed_by, grouped, faulted, found, bursting, stays, before_group, whole_call}
 use Rattle.expander_model.specs.Pieces.{cut}
-use Rattle.expander_model.specs.declared.dialect.ScopeRules.{ScopeRules}
-use Rattle.expander_model.specs.declared.dialect.ScopeRules.TheVariants.{TopLevel, Rust}
-use Rattle.expander_model.specs.declared.dialect.Standing.{Standing}
-use Rattle.expander_model.specs.declared.dialect.Standing.TheVariants.{Top, Enclosed, Argument}
+use Rattle.expander_model.specs.declared.scope_rules.ScopeRules.{ScopeRules}
+use Rattle.expander_model.specs.declared.scope_rules.ScopeRules.TheVariants.{TopLevel, Rust}
+use Rattle.expander_model.specs.declared.scope_rules.Standing.{Standing}
+use Rattle.expander_model.specs.declared.scope_rules.Standing.TheVariants.{Top, Enclosed, Argument}
 
 -- what is around a list: where it is, the name of the outermost call that gave it or none, and the
 -- definitions before it in the lists around it, the nearest first
@@ -176,8 +176,3 @@ module _ {D : Type 0} (rules : ScopeRules) (world : World D) (local : Definition
   abbrev pub scoped : ℕ → Search D
   scoped zero around f = search_list None (suc (size f)) around f
   scoped (suc n) around f = search_list (Some (scoped n)) (suc (size f)) around f
-
--- the expansion of a piece in the world's dialect, where nothing is around it
-abbrev pub expanded : {D : Type 0} → World D → (Definition → D) → (List ℕ → Option D) → ℕ → Forest → Outcome D
-expanded world local scope depth piece =
-    (scoped world.dialect.scope world local scope depth (without_locals Top None) piece).outcome

@@ -11,7 +11,6 @@ use Rattle.mbe.specs.Bursts as made_by
 use Rattle.mbe.specs.Fit.{fit}
 use Rattle.mbe.specs.Grammar.{Grammar}
 use Rattle.mbe.specs.Markers.{is_name}
-use Rattle.expander_model.specs.declared.dialect.Dialect.{Dialect}
 use Rattle.expander_model.specs.Definitions.{Definition}
 use Rattle.expander_model.specs.EditionMarks.{edition_in}
 use Rattle.expander_model.specs.Expansion.{World}
@@ -33,11 +32,9 @@ made span = record span { ctx = Made }
 abbrev pub fit_of : Grammar → Rules → Forest → Option Forest
 fit_of grammar rules argument = option_map (λ r. r.1) (fit is_name grammar made rules.list FnLike argument)
 
--- what definitions mean by a grammar's answers, in an edition and a dialect
-abbrev pub world : Grammar → Edition → Dialect → World Definition
-world grammar edition dialect = record {
+abbrev pub world : Grammar → Edition → World Definition
+world grammar edition = record {
   broken = λ d. is_some (rules_in edition d).err;
   fit = λ d argument. fit_of grammar (rules_in edition d) argument;
   bursts = λ d argument. made_by.bursts is_name grammar made (rules_in edition d).list FnLike argument;
-  dialect = dialect;
 }

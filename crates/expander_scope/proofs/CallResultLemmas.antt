@@ -12,25 +12,27 @@ use Rattle.small_grammar.specs.Text.{same_text}
 use Rattle.expander_model.specs.CallSteps.{call_at, call_behind_colons, key_at}
 use Rattle.expander_model.specs.Calls.{Path, bare, from_crate, other, key_of, is_bang_group}
 use Rattle.expander_model.specs.Definitions.{Definition, nearest, or_else}
-use Rattle.expander_model.specs.Expansion.{World, Outcome, CallSite, PlacedStep, placed, just, followed_by, grouped, bursting, stays, before_group, whole_call}
+use Rattle.expander_model.specs.Expansion.{World, Outcome, CallSite, PlacedStep, expansion, faulted, placed, just, followed_by, grouped, bursting, stays, before_group, whole_call}
 use Rattle.expander_model.specs.Held.{Numbered, unnumbered}
 use Rattle.expander_model.specs.PieceStates.{after_group}
-use Rattle.expander_model.specs.Scoping.{Around, Scoped, Search, and_next, at_call, at_key, fitted, in_brackets, kept_call, looked_up, only, scoped, unbroken}
+use Rattle.expander_model.specs.Scoping.{Around, Scoped, Search, and_next, at_call, at_key, fitted, in_brackets, kept_call, looked_up, only, scoped, unbroken, without_locals}
 use Rattle.expander_model.specs.declared.begun.Begun.TheVariants.{Other}
 use Rattle.expander_model.specs.declared.call.Call.{Call}
-use Rattle.expander_model.specs.declared.dialect.ScopeRules.{ScopeRules}
-use Rattle.expander_model.specs.declared.dialect.Standing.TheVariants.{Argument}
+use Rattle.expander_model.specs.declared.scope_rules.ScopeRules.{ScopeRules}
+use Rattle.expander_model.specs.declared.scope_rules.ScopeRules.TheVariants.{TopLevel}
+use Rattle.expander_model.specs.declared.scope_rules.Standing.TheVariants.{Argument, Top}
 use Rattle.expander_model.specs.declared.fault.FaultKind.{FaultKind}
 use Rattle.expander_model.specs.declared.fault.FaultKind.TheVariants.{CannotExpand, BrokenDefinition, RecursionLimit}
-use Rattle.expander_scope.specs.Expanding.{deeper_at, searched, answer_at, answer, makes_too_many, Adds}
+use Rattle.expander_scope.specs.Expanding.{deeper_at, searched, answer_at, answer, makes_too_many, Adds, Expands}
 use Rattle.expander_scope.specs.ListsLeft.{IsAhead, Left, Place, all_left, groups_left, in_list, list_left, then_left}
-use Rattle.expander_scope.specs.Outcomes.{find_of}
+use Rattle.expander_scope.specs.Outcomes.{find_of, parts_of}
 use Rattle.expander_scope.specs.Sinks.{TakesMore}
-use Rattle.expander_scope.specs.Turns.{begun_behind, is_bare, kept_left, local_at, lookups_of, resolved}
+use Rattle.expander_scope.specs.Turns.{begun_behind, broken_at, is_bare, kept_left, local_at, lookups_of, resolved}
 use Rattle.expander_scope.specs.declared.expand.Expanding.{Expanding}
 use Rattle.expander_scope.proofs.ListLemmas.{IsPlain, called_in, here_in, left_call, passed_in, scoped_is, then_assoc}
 use Rattle.expander_scope.proofs.OutcomeLemmas.{or_first, or_later}
 use Rattle.expander_scope.proofs.SinkLemmas.{takes_both, takes_none}
+use Rattle.textual_scope.proofs.RuleLemmas.{top_level}
 use Rattle.expander_scope.proofs.TurnLemmas.{IsCall, call_is_call, colons_is_call, is_open, names_alone, joined_call, visible_call}
 
 -- look-ups alone
@@ -78,15 +80,31 @@ module _ {S : Type 0} (Has : S → List PlacedStep → Type 0) where
     finds = adds.finds ∙ ap (λ s. s ++ o.finds) finds ∙ append_assoc (map find_of old.finds.items) xs o.finds;
   }
 
+  -- the fault of a definition, if it is invalid, and what is shown of it
+  pub adds_defined : (b : Bool) (old mid new : Expanding S) (outer : Option Span) (at : Span) (steps : List Step) → mid.output ≡ old.output
+      → mid.faults.items ≡ old.faults.items ++ broken_at b at → new.faults ≡ mid.faults → mid.finds ≡ old.finds → new.finds ≡ mid.finds
+      → TakesMore Has mid.output new.output (placed outer steps)
+      → Adds Has old new (if b then faulted BrokenDefinition at (just outer steps) else just outer steps)
+  adds_defined true old mid new outer at steps sink faults same finds looked takes = record {
+    steps = subst (λ s. TakesMore Has s new.output (placed outer steps)) sink takes;
+    faults = ap (λ (v : _). v.items) same ∙ faults;
+    finds = ap (λ (v : _). map find_of v.items) (looked ∙ finds) ∙ sym (append-nil (map find_of old.finds.items));
+  }
+  adds_defined false old mid new outer at steps sink faults same finds looked takes = record {
+    steps = subst (λ s. TakesMore Has s new.output (placed outer steps)) sink takes;
+    faults = ap (λ (v : _). v.items) same ∙ faults;
+    finds = ap (λ (v : _). map find_of v.items) (looked ∙ finds) ∙ sym (append-nil (map find_of old.finds.items));
+  }
+
 -- ---- what a definition says
 
-module _ (world : World Numbered) (scope : List ℕ → Option Numbered) (r : ScopeRules) (d : Numbered) (around : Around) (site : CallSite) where
+module _ (rules : ScopeRules) (world : World Numbered) (scope : List ℕ → Option Numbered) (r : ScopeRules) (d : Numbered) (around : Around) (site : CallSite) where
   abbrev of_call : Bool → ℕ → Scoped Numbered
-  of_call broken depth = unbroken r world unnumbered scope d broken (deeper_at world scope depth) around site
+  of_call broken depth = unbroken r world unnumbered scope d broken (deeper_at rules world scope depth) around site
 
   -- the search of a result, one level deeper
   abbrev pub deeper : ℕ → Forest → Scoped Numbered
-  deeper depth g = searched world scope (depth - 1) (record around { outer = Some (unwrap_or around.outer site.at) }) g
+  deeper depth g = searched rules world scope (depth - 1) (record around { outer = Some (unwrap_or around.outer site.at) }) g
 
   abbrev pub bursting_too : Bool → Scoped Numbered → Scoped Numbered
   bursting_too b a = record a { outcome = bursting b a.outcome }
@@ -99,7 +117,7 @@ module _ (world : World Numbered) (scope : List ℕ → Option Numbered) (r : Sc
   stays_at false (suc n) None kind fits e =
       let is : CannotExpand ≡ kind = cc in
       let b : Bool = world.bursts d site.argument in
-      (b, ap (λ o. bursting_too b (fitted r world unnumbered scope (scoped world.dialect.scope world unnumbered scope n) around site o)) fits
+      (b, ap (λ o. bursting_too b (fitted r world unnumbered scope (scoped rules world unnumbered scope n) around site o)) fits
       ∙ ap (λ k. only (bursting b (stays k around.outer site))) is)
   stays_at false (suc n) (Some g) kind fits e = absurd (cc e)
 
@@ -119,8 +137,8 @@ module _ (world : World Numbered) (scope : List ℕ → Option Numbered) (r : Sc
       let at : Around = record around { outer = Some (unwrap_or around.outer site.at) } in
       let less : n ≡ suc n - 1 = omega arith in (
         omega arith,
-        ap (λ o. bursting_too b (fitted r world unnumbered scope (scoped world.dialect.scope world unnumbered scope n) around site o)) fits
-            ∙ ap (bursting_too b) (ap (scoped world.dialect.scope world unnumbered scope n at) is ∙ scoped_is world scope n n at g ∙ ap (λ m. searched world scope m at g) less),
+        ap (λ o. bursting_too b (fitted r world unnumbered scope (scoped rules world unnumbered scope n) around site o)) fits
+            ∙ ap (bursting_too b) (ap (scoped rules world unnumbered scope n at) is ∙ scoped_is rules world scope n n at g ∙ ap (λ m. searched rules world scope m at g) less),
       )
 
   pub comes_is : (depth : ℕ) (g : Forest) → answer world d depth site.argument ≡ Ok g
@@ -138,34 +156,35 @@ module _ (world : World Numbered) (scope : List ℕ → Option Numbered) (r : Sc
 -- a level is left where a result comes
 pub deep : (d : Numbered) (world : World Numbered) (depth : ℕ) (argument g : Forest) → answer world d depth argument ≡ Ok g → 0 < depth
 deep d world depth argument g e =
-    (comes_is world (λ name. None) world.dialect.scope d (record { standing = Argument; outer = None; locals = [] })
+    (comes_is TopLevel world (λ name. None) TopLevel d (record { standing = Argument; outer = None; locals = [] })
     (record { at = d.definition.name.span; whole = argument; argument = argument }) depth g e).0
 
 -- what a list around it answers is no look-up
 pub no_lookup : (scope : List ℕ → Option Numbered) (locals : List Definition) (f : Forest) (c : Call) (d : Numbered) → Some d ≡ option_map unnumbered (local_at locals f c) → lookups_of scope locals f c ≡ []
 no_lookup scope locals f c d is = go (local_at locals f c) is
   where
-    go : (o : Option Definition) → Some d ≡ option_map unnumbered o → (if is_some o then [] else (key_at f c, scope (key_at f c)) ∷ []) ≡ []
+    go : (o : Option Definition) → Some d ≡ option_map unnumbered o
+        → ◌≡◌ {A = List (List ℕ × Option Numbered)} (if is_some o then [] else (key_at f c, scope (key_at f c)) ∷ []) []
     go None is = absurd (cc is)
     go (Some x) is = refl
 
 -- ---- what a call finds
 
-module _ (world : World Numbered) (scope : List ℕ → Option Numbered) (depth : ℕ) where
+module _ (rules : ScopeRules) (world : World Numbered) (scope : List ℕ → Option Numbered) (depth : ℕ) where
   module _ (r : ScopeRules) (around : Around) (site : CallSite) (kept : Scoped Numbered) where
     abbrev looked : Option Numbered → Scoped Numbered
-    looked o = looked_up r world unnumbered scope o (deeper_at world scope depth) around site kept
+    looked o = looked_up r world unnumbered scope o (deeper_at rules world scope depth) around site kept
 
     abbrev noted : List (List ℕ × Option Numbered) → Scoped Numbered → Scoped Numbered
     noted xs a = record a { outcome = followed_by (looks xs) a.outcome }
 
-    by_local : (o : Option Definition) (key : List ℕ) → at_key r world unnumbered scope o key (deeper_at world scope depth) around site kept
+    by_local : (o : Option Definition) (key : List ℕ) → at_key r world unnumbered scope o key (deeper_at rules world scope depth) around site kept
         ≡ noted (if is_some o then [] else (key, scope key) ∷ []) (looked (or_else (option_map unnumbered o) (scope key)))
     by_local None key = refl
     by_local (Some d) key = refl
 
     by_path : (path : Path) (name : Ident) → is_open path ≡ true → (let o : Option Definition = if names_alone path then nearest around.locals name.sym else None in
-        at_call r world unnumbered scope (deeper_at world scope depth) around path name site kept
+        at_call r world unnumbered scope (deeper_at rules world scope depth) around path name site kept
         ≡ noted (if is_some o then [] else (key_of path name, scope (key_of path name)) ∷ []) (looked (or_else (option_map unnumbered o) (scope (key_of path name)))))
     by_path bare name e = by_local (nearest around.locals name.sym) name.sym
     by_path (from_crate root p q) name e = by_local None (key_of (from_crate root p q) name)
@@ -176,11 +195,11 @@ module _ (world : World Numbered) (scope : List ℕ → Option Numbered) (depth 
   site_of f c b k = record { at = c.name.span; whole = whole_call k.path c.name k.bang k.brackets c.argument; argument = c.argument }
 
   abbrev pub kept_of : (r : ScopeRules) (around : Around) (f : Forest) (c : Call) (b : Bool) → IsCall f c b → Scoped Numbered
-  kept_of r around f c b k = kept_call r world unnumbered scope (searched world scope depth) around k.path c.name k.bang k.brackets c.argument
+  kept_of r around f c b k = kept_call r world unnumbered scope (searched rules world scope depth) around k.path c.name k.bang k.brackets c.argument
 
   -- what comes of a call is what its name finds, behind its look-up
   resolved_call : (r : ScopeRules) (around : Around) (f : Forest) (c : Call) (k : IsCall f c true)
-      → called_in world scope depth r around k.path c.name k.bang k.brackets c.argument
+      → called_in rules world scope depth r around k.path c.name k.bang k.brackets c.argument
       ≡ noted r around (site_of f c true k) (kept_of r around f c true k) (lookups_of scope around.locals f c)
       (looked r around (site_of f c true k) (kept_of r around f c true k) (resolved scope around.locals f c))
   resolved_call r around f c k =
@@ -196,15 +215,13 @@ module _ (world : World Numbered) (scope : List ℕ → Option Numbered) (depth 
   behind_is : (f : Forest) (c : Call) (b : Bool) (k : IsCall f c b) → begun_behind c.from_group ≡ after_group Other k.brackets.kind
   behind_is f c b k = ap begun_behind k.group_is
 
-  module _ (outer : Option Span) (p : Place) (plain : IsPlain world scope depth world.dialect.scope p.begun p.here) where
-    abbrev rules : ScopeRules
-    rules = world.dialect.scope
+  module _ (outer : Option Span) (p : Place) (plain : IsPlain rules world scope depth rules p.begun p.here) where
 
     abbrev around : Around
-    around = here_in world scope depth outer p.standing p.locals
+    around = here_in rules world scope depth outer p.standing p.locals
 
     abbrev next : List Definition → Left
-    next = groups_left world scope depth outer p.groups
+    next = groups_left rules world scope depth outer p.groups
 
     -- the place behind a call, once it has defined these
     abbrev pub behind_call : Call → List Definition → Place
@@ -212,16 +229,16 @@ module _ (world : World Numbered) (scope : List ℕ → Option Numbered) (depth 
 
     -- what is left at a call: what comes of it, and what is left behind it
     call_left : (c : Call) (b : Bool) (k : IsCall p.here c b)
-        → (let a : Scoped Numbered = called_in world scope depth rules around k.path c.name k.bang k.brackets c.argument in
-        all_left world scope depth outer p ≡ then_left a.outcome (all_left world scope depth outer (behind_call c a.defines)))
+        → (let a : Scoped Numbered = called_in rules world scope depth rules around k.path c.name k.bang k.brackets c.argument in
+        all_left rules world scope depth outer p ≡ then_left a.outcome (all_left rules world scope depth outer (behind_call c a.defines)))
     call_left c b k =
-        let a : Scoped Numbered = called_in world scope depth rules around k.path c.name k.bang k.brackets c.argument in
+        let a : Scoped Numbered = called_in rules world scope depth rules around k.path c.name k.bang k.brackets c.argument in
         let is = joined_call p.here c b k in
-        passed_in world scope depth outer p.begun (after_group Other k.brackets.kind) p.standing p.locals p.here c.rest a next
-        (ap (list_left world scope depth rules p.begun around) is
-        ∙ left_call world scope depth rules p.begun around k.path c.name k.bang k.brackets c.argument c.rest k.of_call
+        passed_in rules world scope depth outer p.begun (after_group Other k.brackets.kind) p.standing p.locals p.here c.rest a next
+        (ap (list_left rules world scope depth rules p.begun around) is
+        ∙ left_call rules world scope depth rules p.begun around k.path c.name k.bang k.brackets c.argument c.rest k.of_call
         (λ u v. subst (λ f. IsAhead f None) is (plain u v)))
-        ∙ ap (λ t. then_left a.outcome (in_list world scope depth outer t p.standing (a.defines ++ p.locals) c.rest next)) (sym (behind_is p.here c b k))
+        ∙ ap (λ t. then_left a.outcome (in_list rules world scope depth outer t p.standing (a.defines ++ p.locals) c.rest next)) (sym (behind_is p.here c b k))
 
     visible : {c : Call} {b : Bool} → (k : IsCall p.here c b) → is_visible k.brackets.kind ≡ true
     visible k = visible_call k.path k.bang k.brackets k.of_call
@@ -229,88 +246,112 @@ module _ (world : World Numbered) (scope : List ℕ → Option Numbered) (depth 
     -- a call that stays is kept up to its group, which is searched as an argument
     kept_is : (c : Call) (b : Bool) (k : IsCall p.here c b) (xs : List (List ℕ × Option Numbered))
         → (let a : Scoped Numbered = kept_of rules around p.here c b k in
-        then_left (followed_by (looks xs) a.outcome) (all_left world scope depth outer (behind_call c []))
-        ≡ then_left (looks xs) (kept_left world scope depth outer (before_group k.path c.name k.bang) c.from_group p))
+        then_left (followed_by (looks xs) a.outcome) (all_left rules world scope depth outer (behind_call c []))
+        ≡ then_left (looks xs) (kept_left rules world scope depth outer (before_group k.path c.name k.bang) c.from_group p))
     kept_is c b k xs =
         let before : Outcome Numbered = just outer (walk (before_group k.path c.name k.bang)) in
-        let a : Scoped Numbered = searched world scope depth (record around { standing = Argument }) c.argument in
+        let a : Scoped Numbered = searched rules world scope depth (record around { standing = Argument }) c.argument in
         let g : Scoped Numbered = in_brackets outer k.brackets a in
-        let later : List Definition → Left = λ ls. in_list world scope depth outer (after_group Other k.brackets.kind) p.standing ls c.rest next in
-        ap (λ t. then_left (followed_by (looks xs) (followed_by before g.outcome)) (in_list world scope depth outer t p.standing p.locals c.rest next)) (behind_is p.here c b k)
+        let later : List Definition → Left = λ ls. in_list rules world scope depth outer (after_group Other k.brackets.kind) p.standing ls c.rest next in
+        ap (λ t. then_left (followed_by (looks xs) (followed_by before g.outcome)) (in_list rules world scope depth outer t p.standing p.locals c.rest next)) (behind_is p.here c b k)
         ∙ ap (λ v. then_left (followed_by (looks xs) (followed_by before g.outcome)) (later ((if v then [] else a.defines) ++ p.locals))) (sym (visible k))
         ∙ then_assoc (looks xs) (followed_by before g.outcome) (later (g.defines ++ p.locals))
         ∙ ap (then_left (looks xs)) (then_assoc before g.outcome (later (g.defines ++ p.locals)))
-        ∙ ap (λ f. then_left (looks xs) (kept_left world scope depth outer (before_group k.path c.name k.bang) f p)) (sym k.group_is)
+        ∙ ap (λ f. then_left (looks xs) (kept_left rules world scope depth outer (before_group k.path c.name k.bang) f p)) (sym k.group_is)
 
     -- it finds nothing
     pub unknown_left : (c : Call) (k : IsCall p.here c true) → resolved scope p.locals p.here c ≡ None
-        → all_left world scope depth outer p
-        ≡ then_left (looks (lookups_of scope p.locals p.here c)) (kept_left world scope depth outer (before_group k.path c.name k.bang) c.from_group p)
+        → all_left rules world scope depth outer p
+        ≡ then_left (looks (lookups_of scope p.locals p.here c)) (kept_left rules world scope depth outer (before_group k.path c.name k.bang) c.from_group p)
     unknown_left c k none =
         let kept : Scoped Numbered = kept_of rules around p.here c true k in
         let xs : List (List ℕ × Option Numbered) = lookups_of scope p.locals p.here c in
         call_left c true k
-        ∙ ap (λ (x : Scoped Numbered). then_left x.outcome (all_left world scope depth outer (behind_call c x.defines)))
+        ∙ ap (λ (x : Scoped Numbered). then_left x.outcome (all_left rules world scope depth outer (behind_call c x.defines)))
         (resolved_call rules around p.here c k ∙ ap (λ o. noted rules around (site_of p.here c true k) kept xs (looked rules around (site_of p.here c true k) kept o)) none)
         ∙ kept_is c true k xs
 
     -- or it is none, for the `::` before it
     pub colons_left : (c : Call) (k : IsCall p.here c false)
-        → all_left world scope depth outer p ≡ kept_left world scope depth outer (before_group k.path c.name k.bang) c.from_group p
+        → all_left rules world scope depth outer p ≡ kept_left rules world scope depth outer (before_group k.path c.name k.bang) c.from_group p
     colons_left c k =
         call_left c false k
-        ∙ ap (λ (x : Scoped Numbered). then_left x.outcome (all_left world scope depth outer (behind_call c x.defines))) (not_open k.path c.name (site_of p.here c false k) k.is_so)
+        ∙ ap (λ (x : Scoped Numbered). then_left x.outcome (all_left rules world scope depth outer (behind_call c x.defines))) (not_open k.path c.name (site_of p.here c false k) k.is_so)
         ∙ kept_is c false k []
       where
         kept : Scoped Numbered
         kept = kept_of rules around p.here c false k
 
         not_open : (path : Path) (name : Ident) (site : CallSite) → is_open path ≡ false
-            → at_call rules world unnumbered scope (deeper_at world scope depth) around path name site kept ≡ kept
+            → at_call rules world unnumbered scope (deeper_at rules world scope depth) around path name site kept ≡ kept
         not_open bare name site e = absurd (cc e)
         not_open (from_crate root p q) name site e = absurd (cc e)
         not_open (other p q) name site e = refl
 
     -- it finds a definition
     known_left : (c : Call) (k : IsCall p.here c true) (d : Numbered) → resolved scope p.locals p.here c ≡ Some d → (a : Scoped Numbered)
-        → unbroken rules world unnumbered scope d (world.broken d) (deeper_at world scope depth) around (site_of p.here c true k) ≡ a
-        → all_left world scope depth outer p
-        ≡ then_left (followed_by (looks (lookups_of scope p.locals p.here c)) a.outcome) (all_left world scope depth outer (behind_call c a.defines))
+        → unbroken rules world unnumbered scope d (world.broken d) (deeper_at rules world scope depth) around (site_of p.here c true k) ≡ a
+        → all_left rules world scope depth outer p
+        ≡ then_left (followed_by (looks (lookups_of scope p.locals p.here c)) a.outcome) (all_left rules world scope depth outer (behind_call c a.defines))
     known_left c k d finds a is =
         let kept : Scoped Numbered = kept_of rules around p.here c true k in
         let xs : List (List ℕ × Option Numbered) = lookups_of scope p.locals p.here c in
         call_left c true k
-        ∙ ap (λ (x : Scoped Numbered). then_left x.outcome (all_left world scope depth outer (behind_call c x.defines)))
+        ∙ ap (λ (x : Scoped Numbered). then_left x.outcome (all_left rules world scope depth outer (behind_call c x.defines)))
         (resolved_call rules around p.here c k ∙ ap (λ o. noted rules around (site_of p.here c true k) kept xs (looked rules around (site_of p.here c true k) kept o)) finds
         ∙ ap (noted rules around (site_of p.here c true k) kept xs) is)
 
     -- and stays for a fault
     pub stays_left : (c : Call) (k : IsCall p.here c true) (d : Numbered) → resolved scope p.locals p.here c ≡ Some d → (kind : FaultKind) → answer world d depth c.argument ≡ Err kind
-        → (b : Bool) × (all_left world scope depth outer p
-        ≡ then_left (followed_by (looks (lookups_of scope p.locals p.here c)) (bursting b (stays kind outer (site_of p.here c true k)))) (all_left world scope depth outer (behind_call c [])))
+        → (b : Bool) × (all_left rules world scope depth outer p
+        ≡ then_left (followed_by (looks (lookups_of scope p.locals p.here c)) (bursting b (stays kind outer (site_of p.here c true k)))) (all_left rules world scope depth outer (behind_call c [])))
     stays_left c k d finds kind says =
-        let is = stays_is world scope rules d around (site_of p.here c true k) depth kind says in
+        let is = stays_is rules world scope rules d around (site_of p.here c true k) depth kind says in
         (is.0, known_left c k d finds (only (bursting is.0 (stays kind outer (site_of p.here c true k)))) is.1)
 
     -- or its result comes in its place
     pub comes_left : (c : Call) (k : IsCall p.here c true) (d : Numbered) → resolved scope p.locals p.here c ≡ Some d → (g : Forest) → answer world d depth c.argument ≡ Ok g
-        → (let a : Scoped Numbered = deeper world scope rules d around (site_of p.here c true k) depth g in
-        all_left world scope depth outer p
-        ≡ then_left (followed_by (looks (lookups_of scope p.locals p.here c)) (bursting (world.bursts d c.argument) a.outcome)) (all_left world scope depth outer (behind_call c a.defines)))
+        → (let a : Scoped Numbered = deeper rules world scope rules d around (site_of p.here c true k) depth g in
+        all_left rules world scope depth outer p
+        ≡ then_left (followed_by (looks (lookups_of scope p.locals p.here c)) (bursting (world.bursts d c.argument) a.outcome)) (all_left rules world scope depth outer (behind_call c a.defines)))
     comes_left c k d finds g says =
         let site : CallSite = site_of p.here c true k in
-        known_left c k d finds (bursting_too world scope rules d around site (world.bursts d c.argument) (deeper world scope rules d around site depth g))
-        (comes_is world scope rules d around site depth g says).1
+        known_left c k d finds (bursting_too rules world scope rules d around site (world.bursts d c.argument) (deeper rules world scope rules d around site depth g))
+        (comes_is rules world scope rules d around site depth g says).1
 
     -- where the call makes too many tokens, the whole does
     pub answer_bursts : (c : Call) (k : IsCall p.here c true) (d : Numbered) → resolved scope p.locals p.here c ≡ Some d → makes_too_many world d depth c.argument ≡ true
-        → (all_left world scope depth outer p).0.bursts ≡ true
+        → (all_left rules world scope depth outer p).0.bursts ≡ true
     answer_bursts c k d finds much =
-        ap (λ (l : Left). l.0.bursts) (known_left c k d finds (unbroken rules world unnumbered scope d (world.broken d) (deeper_at world scope depth) around (site_of p.here c true k)) refl)
-        ∙ or_first _ _ (bursts_is world scope rules d around (site_of p.here c true k) depth much)
+        ap (λ (l : Left). l.0.bursts) (known_left c k d finds (unbroken rules world unnumbered scope d (world.broken d) (deeper_at rules world scope depth) around (site_of p.here c true k)) refl)
+        ∙ or_first _ _ (bursts_is rules world scope rules d around (site_of p.here c true k) depth much)
 
     pub result_bursts : (c : Call) (k : IsCall p.here c true) (d : Numbered) → resolved scope p.locals p.here c ≡ Some d → (g : Forest) → answer world d depth c.argument ≡ Ok g
-        → (deeper world scope rules d around (site_of p.here c true k) depth g).outcome.bursts ≡ true
-        → (all_left world scope depth outer p).0.bursts ≡ true
+        → (deeper rules world scope rules d around (site_of p.here c true k) depth g).outcome.bursts ≡ true
+        → (all_left rules world scope depth outer p).0.bursts ≡ true
     result_bursts c k d finds g says much =
         ap (λ (l : Left). l.0.bursts) (comes_left c k d finds g says) ∙ or_first _ _ (or_later (world.bursts d c.argument) _ much)
+
+-- ---- a whole tree, where lists have no definitions
+
+module _ (world : World Numbered) (scope : List ℕ → Option Numbered) (depth : ℕ) (tree : Forest) where
+  pub top_searched : searched TopLevel world scope depth (without_locals Top None) tree ≡ only (expansion world scope depth None tree)
+  top_searched = sym (scoped_is TopLevel world scope depth depth (without_locals Top None) tree) ∙ top_level world unnumbered scope depth Top None tree
+
+  -- all was added to what had no faults and no look-ups
+  pub piece_expands : {S : Type 0} (Has : S → List PlacedStep → Type 0) (old new : Expanding S) → old.faults.items ≡ [] → old.finds.items ≡ []
+      → Adds Has old new (searched TopLevel world scope depth (without_locals Top None) tree).outcome → Expands Has old.output new (expansion world scope depth None tree)
+  piece_expands Has old new no_faults no_finds adds =
+      let is : Adds Has old new (expansion world scope depth None tree) = subst (λ (a : Scoped Numbered). Adds Has old new a.outcome) top_searched adds in record {
+        steps = is.steps;
+        faults = is.faults ∙ ap (λ l. l ++ (expansion world scope depth None tree).faults) no_faults;
+        finds = is.finds ∙ ap (λ l. map find_of l ++ (expansion world scope depth None tree).finds) no_finds;
+      }
+
+  pub piece_bursts : (searched TopLevel world scope depth (without_locals Top None) tree).outcome.bursts ≡ true → (expansion world scope depth None tree).bursts ≡ true
+  piece_bursts much = ap (λ (a : Scoped Numbered). a.outcome.bursts) (sym top_searched) ∙ much
+
+  -- a tree without calls stays as it is
+  pub quiet_parts : scoped TopLevel world unnumbered scope depth (without_locals Top None) tree ≡ only (just None (walk tree))
+      → record { steps = placed None (walk tree); faults = []; finds = [] } ≡ parts_of (expansion world scope depth None tree)
+  quiet_parts e = ap (λ (a : Scoped Numbered). parts_of a.outcome) (sym e ∙ top_level world unnumbered scope depth Top None tree)

@@ -1,8 +1,9 @@
 -- How a search of lists goes on, event by event and turn by turn.
 use Rattle.std.proofs.Common.{◌≡◌, ℕ, zero, suc, ◌<◌, ◌+◌, ◌*◌, List, [], ◌∷◌, ◌++◌, refl, sym, ap, subst, ◌∙◌, append_assoc, append-nil, arith, Bool, true, false, if◌then◌else◌}
-use Rattle.std.specs.Prelude.{map, length, reverse, Option, Some, None}
+use Rattle.std.specs.Prelude.{map, length, reverse, Option, Some, None, Ok, Err, unwrap_or, ◌-◌}
 use Rattle.std.proofs.lemmas.List.{reverse-append}
 use Rattle.tt_data.specs.Forest.{Forest, empty, leaf, group, joined, size}
+use Rattle.tt_data.proofs.ForestLemmas.{size-joined}
 use Rattle.tt_data.specs.Walk.{at_leaf, closes, opens, walk}
 use Rattle.tt_data.specs.declared.delimiter.Delimiter.{Delimiter}
 use Rattle.tt_data.specs.declared.delimiter.DelimiterKind.{DelimiterKind}
@@ -13,7 +14,7 @@ use Rattle.bridge.specs.Text.{is_visible}
 use Rattle.expander_model.specs.CallSteps.{bare_call, call_at, call_behind_colons, crate_call}
 use Rattle.expander_model.specs.Calls.{mark_leaf, marked, token}
 use Rattle.expander_model.specs.Definitions.{Definition, definition_of}
-use Rattle.expander_model.specs.Expansion.{World, Outcome, PlacedStep, just, followed_by}
+use Rattle.expander_model.specs.Expansion.{World, Outcome, CallSite, PlacedStep, before_group, bursting, just, followed_by, stays}
 use Rattle.expander_model.specs.Held.{Numbered, unnumbered}
 use Rattle.expander_model.specs.PieceStates.{after_leaf, after_group}
 use Rattle.expander_model.specs.Pieces.{cut}
@@ -25,13 +26,16 @@ use Rattle.bridge.specs.declared.printing.event.TokenEvent.TheVariants as as_ste
 use Rattle.tt_data.specs.Lent.{leaf_lent}
 use Rattle.tt_data.specs.declared.leaf.lent.LeafRef.{LeafRef}
 use Rattle.expander_model.specs.declared.begun.Begun.{Begun}
+use Rattle.expander_model.specs.declared.call.Call.{Call}
+use Rattle.expander_model.specs.declared.fault.FaultKind.{FaultKind}
+use Rattle.expander_scope.specs.Outcomes.{find_of}
 use Rattle.expander_model.specs.declared.begun.Begun.TheVariants.{Nothing, Other}
-use Rattle.expander_model.specs.declared.dialect.ScopeRules.{ScopeRules}
-use Rattle.expander_model.specs.declared.dialect.ScopeRules.TheVariants.{TopLevel, Rust}
-use Rattle.expander_model.specs.declared.dialect.Standing.{Standing}
-use Rattle.expander_model.specs.declared.dialect.Standing.TheVariants.{Top, Enclosed, Argument}
+use Rattle.expander_model.specs.declared.scope_rules.ScopeRules.{ScopeRules}
+use Rattle.expander_model.specs.declared.scope_rules.ScopeRules.TheVariants.{TopLevel, Rust}
+use Rattle.expander_model.specs.declared.scope_rules.Standing.{Standing}
+use Rattle.expander_model.specs.declared.scope_rules.Standing.TheVariants.{Top, Enclosed, Argument}
 use Rattle.expander_model.specs.declared.tree_walk.Around.{Around}
-use Rattle.expander_scope.specs.Expanding.{Adds, deeper_at, searched}
+use Rattle.expander_scope.specs.Expanding.{Adds, answer, deeper_at, makes_too_many, searched}
 use Rattle.expander_scope.specs.ListsLeft.{IsAhead, Left, Open, Place, all_left, groups_left, in_list, let_out, list_left, standing_in, then_left}
 use Rattle.expander_scope.specs.Leaving.{Leaves}
 use Rattle.expander_scope.specs.LocalTables.{AreReadIn, locals_of}
@@ -41,11 +45,11 @@ use Rattle.expander_scope.specs.declared.list_walk.Level.{Level}
 use Rattle.expander_scope.specs.declared.list_walk.ListWalk.{ListWalk}
 use Rattle.expander_scope.specs.declared.locals.Locals.{Locals}
 use Rattle.expander_scope.proofs.CallLemmas.{no_call}
-use Rattle.expander_scope.proofs.CallResultLemmas.{adds_just, adds_more, looks}
+use Rattle.expander_scope.proofs.CallResultLemmas.{adds_just, adds_looks, adds_more, adds_stays, answer_bursts, behind_call, comes_left, deeper, looks, result_bursts, site_of, stays_left, unknown_left}
 use Rattle.expander_scope.proofs.ListLemmas.{entered_in, here_in, left_at_beginning, left_at_end, left_group, left_leaf, opened, passed_in, then_assoc}
 use Rattle.expander_scope.proofs.OutcomeLemmas.{or_later}
 use Rattle.expander_scope.proofs.SinkLemmas.{takes_none}
-use Rattle.expander_scope.proofs.TurnLemmas.{neither}
+use Rattle.expander_scope.proofs.TurnLemmas.{IsCall, call_is_call, neither, rest_smaller}
 use Rattle.textual_scope.proofs.LeftLemmas.{at_definition}
 use Rattle.textual_scope.proofs.ResultLemmas.{followed_by_nothing}
 
@@ -53,6 +57,17 @@ in_group_is : (d : Delimiter) (s : Standing) → in_group d s ≡ standing_in d.
 in_group_is d Top = refl
 in_group_is d Enclosed = refl
 in_group_is d Argument = refl
+
+pub entered : (b : Bool) → (b ≡ false → ⊥) → b ≡ true
+entered true no = refl
+entered false no = absurd (no refl)
+
+pub never_at_end : (f : Forest) → BeginsWithGroup f → f ≡ empty → ⊥
+never_at_end f begins is = let both : empty ≡ group begins.0 begins.1 begins.2 = sym is ∙ begins.3 in cc both
+
+pub kept_less : (w : ListWalk) (before from_group here : Forest) → w.trees.here ≡ joined before from_group → here ≡ from_group
+    → 2 * size here + steps_in (groups_of w.trees) < suc (turns_left w)
+kept_less w before from_group here is there = omega (arith, ap size is, ap size there, size-joined before from_group)
 
 -- what is around more is around what was
 nested_more : (front locals : List Definition) (gs : List Open) → AreNested locals gs → AreNested (front ++ locals) gs
@@ -67,12 +82,10 @@ nested_out k locals g gs h = go (is_visible k)
     go true = h.1
     go false = subst (λ ls. AreNested ls gs) (sym h.0.1) (nested_more h.0.0 g.locals gs h.1)
 
-module _ (world : World Numbered) (scope : List ℕ → Option Numbered) (depth : ℕ) (outer : Option Span) where
-  abbrev rules : ScopeRules
-  rules = world.dialect.scope
+module _ (rules : ScopeRules) (world : World Numbered) (scope : List ℕ → Option Numbered) (depth : ℕ) (outer : Option Span) where
 
   abbrev whole_left : Place → Left
-  whole_left p = all_left world scope depth outer p
+  whole_left p = all_left rules world scope depth outer p
 
   -- the place behind a leaf
   abbrev behind_leaf : Place → Leaf → Forest → Place
@@ -82,10 +95,10 @@ module _ (world : World Numbered) (scope : List ℕ → Option Numbered) (depth 
       → whole_left p ≡ then_left (just outer (at_leaf l ∷ [])) (whole_left (behind_leaf p l rest))
   leaf_left p l rest plain none is =
       let both = neither (crate_call (leaf l rest)) (bare_call (leaf l rest)) (ap call_at (sym is) ∙ none.0) in
-      let at : Surroundings = here_in world scope depth outer p.standing p.locals in
-      passed_in world scope depth outer p.begun (after_leaf p.begun l) p.standing p.locals p.here rest (only (just outer (at_leaf l ∷ []))) (groups_left world scope depth outer p.groups)
-      (ap (list_left world scope depth rules p.begun at) is
-      ∙ left_leaf world scope depth rules p.begun at l rest (λ u v. subst (λ f. IsAhead f None) is (plain u v))
+      let at : Surroundings = here_in rules world scope depth outer p.standing p.locals in
+      passed_in rules world scope depth outer p.begun (after_leaf p.begun l) p.standing p.locals p.here rest (only (just outer (at_leaf l ∷ []))) (groups_left rules world scope depth outer p.groups)
+      (ap (list_left rules world scope depth rules p.begun at) is
+      ∙ left_leaf rules world scope depth rules p.begun at l rest (λ u v. subst (λ f. IsAhead f None) is (plain u v))
       (no_call l rest both.0 both.1 (ap call_behind_colons (sym is) ∙ none.1)))
 
   -- the place in a group
@@ -95,25 +108,25 @@ module _ (world : World Numbered) (scope : List ℕ → Option Numbered) (depth 
     begun = Nothing;
     standing = inside;
     locals = p.locals;
-    groups = opened world scope depth outer d rest (after_group p.begun d.kind) p.standing p.locals ∷ p.groups;
+    groups = opened rules world scope depth outer d rest (after_group p.begun d.kind) p.standing p.locals ∷ p.groups;
   }
 
   group_left : (p : Place) (d : Delimiter) (inner rest : Forest) → IsPlainAhead rules p → p.here ≡ group d inner rest
       → whole_left p ≡ then_left (just outer (opens d.kind d.open_span ∷ [])) (whole_left (in_it p (standing_in d.kind p.standing) d inner rest))
   group_left p d inner rest plain is =
-      let at : Surroundings = here_in world scope depth outer p.standing p.locals in
-      let a : Standing → Scoped Numbered = λ s. in_brackets outer d (searched world scope depth (here_in world scope depth outer s p.locals) inner) in
+      let at : Surroundings = here_in rules world scope depth outer p.standing p.locals in
+      let a : Standing → Scoped Numbered = λ s. in_brackets outer d (searched rules world scope depth (here_in rules world scope depth outer s p.locals) inner) in
       let later : Scoped Numbered → Left = λ x.
-      then_left x.outcome (in_list world scope depth outer (after_group p.begun d.kind) p.standing (x.defines ++ p.locals) rest (groups_left world scope depth outer p.groups)) in
-      passed_in world scope depth outer p.begun (after_group p.begun d.kind) p.standing p.locals p.here rest (a (in_group d p.standing)) (groups_left world scope depth outer p.groups)
-      (ap (list_left world scope depth rules p.begun at) is
-      ∙ left_group world scope depth rules p.begun at d inner rest (λ u v. subst (λ f. IsAhead f None) is (plain u v)))
+      then_left x.outcome (in_list rules world scope depth outer (after_group p.begun d.kind) p.standing (x.defines ++ p.locals) rest (groups_left rules world scope depth outer p.groups)) in
+      passed_in rules world scope depth outer p.begun (after_group p.begun d.kind) p.standing p.locals p.here rest (a (in_group d p.standing)) (groups_left rules world scope depth outer p.groups)
+      (ap (list_left rules world scope depth rules p.begun at) is
+      ∙ left_group rules world scope depth rules p.begun at d inner rest (λ u v. subst (λ f. IsAhead f None) is (plain u v)))
       ∙ ap (λ s. later (a s)) (in_group_is d p.standing)
-      ∙ entered_in world scope depth outer (after_group p.begun d.kind) p.standing (standing_in d.kind p.standing) p.locals d inner rest p.groups
+      ∙ entered_in rules world scope depth outer (after_group p.begun d.kind) p.standing (standing_in d.kind p.standing) p.locals d inner rest p.groups
 
   argument_is : (p : Place) (d : Delimiter) (inner rest : Forest)
-      → argument_left world scope depth outer p (group d inner rest) ≡ then_left (just outer (opens d.kind d.open_span ∷ [])) (whole_left (in_it p Argument d inner rest))
-  argument_is p d inner rest = entered_in world scope depth outer (after_group p.begun d.kind) p.standing Argument p.locals d inner rest p.groups
+      → argument_left rules world scope depth outer p (group d inner rest) ≡ then_left (just outer (opens d.kind d.open_span ∷ [])) (whole_left (in_it p Argument d inner rest))
+  argument_is p d inner rest = entered_in rules world scope depth outer (after_group p.begun d.kind) p.standing Argument p.locals d inner rest p.groups
 
   -- the place behind the innermost group
   abbrev out_of_it : Place → Open → List Open → Place
@@ -122,21 +135,21 @@ module _ (world : World Numbered) (scope : List ℕ → Option Numbered) (depth 
   end_left : (p : Place) (g : Open) (gs : List Open) → p.here ≡ empty → p.groups ≡ g ∷ gs
       → whole_left p ≡ then_left (just outer (closes g.kind g.close_span ∷ [])) (whole_left (out_of_it p g gs))
   end_left p g gs at_end groups =
-      ap (λ f. in_list world scope depth outer p.begun p.standing p.locals f (groups_left world scope depth outer p.groups)) at_end
-      ∙ left_at_end world scope depth outer p.begun p.standing p.locals p.groups
-      ∙ ap (λ l. groups_left world scope depth outer l p.locals) groups
+      ap (λ f. in_list rules world scope depth outer p.begun p.standing p.locals f (groups_left rules world scope depth outer p.groups)) at_end
+      ∙ left_at_end rules world scope depth outer p.begun p.standing p.locals p.groups
+      ∙ ap (λ l. groups_left rules world scope depth outer l p.locals) groups
 
   nothing_left : (p : Place) → p.here ≡ empty → p.groups ≡ [] → whole_left p ≡ (just outer [], p.locals)
   nothing_left p at_end groups =
-      ap (λ f. in_list world scope depth outer p.begun p.standing p.locals f (groups_left world scope depth outer p.groups)) at_end
-      ∙ left_at_end world scope depth outer p.begun p.standing p.locals p.groups
-      ∙ ap (λ l. groups_left world scope depth outer l p.locals) groups
+      ap (λ f. in_list rules world scope depth outer p.begun p.standing p.locals f (groups_left rules world scope depth outer p.groups)) at_end
+      ∙ left_at_end rules world scope depth outer p.begun p.standing p.locals p.groups
+      ∙ ap (λ l. groups_left rules world scope depth outer l p.locals) groups
 
   module _ (edition : Edition) {S : Type 0} (Has : S → List PlacedStep → Type 0) (old new : Search S) (before after : ListWalk) (p : Place) (at : IsAt before old.locals p) where
     -- a leaf was passed
     pub goes_leaf : (l : Leaf) → IsPlainAhead rules p → IsNoCall p → p.here ≡ leaf l after.trees.here → groups_of after.trees ≡ groups_of before.trees
         → after.begun ≡ after_leaf before.begun l → after.standing ≡ before.standing → after.levels ≡ before.levels → new.locals ≡ old.locals
-        → Adds Has old.out new.out (just outer (at_leaf l ∷ [])) → Goes world scope depth outer edition Has (whole_left p) old new before after
+        → Adds Has old.out new.out (just outer (at_leaf l ∷ [])) → Goes rules world scope depth outer edition Has (whole_left p) old new before after
     goes_leaf l plain none is groups begun standing levels locals adds = record {
       next = behind_leaf p l after.trees.here;
       at = record {
@@ -161,7 +174,7 @@ module _ (world : World Numbered) (scope : List ℕ → Option Numbered) (depth 
         → groups_of after.trees ≡ record { kind = d.kind; close_span = d.close_span; behind = rest } ∷ groups_of before.trees
         → after.levels.items ≡ before.levels.items ++ record { begun = after_group before.begun d.kind; standing = before.standing; locals = length (locals_of old.locals) } ∷ []
         → after.begun ≡ Nothing → after.standing ≡ inside → new.locals ≡ old.locals
-        → Adds Has old.out new.out (just outer (opens d.kind d.open_span ∷ [])) → Goes world scope depth outer edition Has from old new before after
+        → Adds Has old.out new.out (just outer (opens d.kind d.open_span ∷ [])) → Goes rules world scope depth outer edition Has from old new before after
     goes_in from inside d rest is from_is groups levels begun standing locals adds = record {
       next = in_it p inside d after.trees.here rest;
       at = record {
@@ -185,7 +198,7 @@ module _ (world : World Numbered) (scope : List ℕ → Option Numbered) (depth 
     pub goes_out : (g : Open) (gs : List Open) → p.here ≡ empty → p.groups ≡ g ∷ gs → after.trees.here ≡ g.behind → groups_of after.trees ≡ map around_of gs
         → reverse after.levels.items ≡ map level_of gs → after.begun ≡ g.begun → after.standing ≡ g.standing
         → locals_of new.locals ≡ let_out g.kind g.locals p.locals → (AreReadIn edition old.locals → AreReadIn edition new.locals)
-        → Adds Has old.out new.out (just outer (closes g.kind g.close_span ∷ [])) → Goes world scope depth outer edition Has (whole_left p) old new before after
+        → Adds Has old.out new.out (just outer (closes g.kind g.close_span ∷ [])) → Goes rules world scope depth outer edition Has (whole_left p) old new before after
     goes_out g gs at_end is here groups levels begun standing locals read adds = record {
       next = out_of_it p g gs;
       at = record {
@@ -208,8 +221,8 @@ module _ (world : World Numbered) (scope : List ℕ → Option Numbered) (depth 
     pub goes_on_behind : (d : Definition) (piece rest : Forest) → rules ≡ Rust → p.begun ≡ Nothing → IsAhead p.here (Some (piece, rest)) → definition_of piece ≡ Some d
         → after.trees.here ≡ rest → groups_of after.trees ≡ groups_of before.trees → after.begun ≡ before.begun → after.standing ≡ before.standing
         → after.levels ≡ before.levels → locals_of new.locals ≡ d ∷ locals_of old.locals → (AreReadIn edition old.locals → AreReadIn edition new.locals)
-        → Adds Has old.out new.out (defined rules world unnumbered scope (here_in world scope depth outer p.standing p.locals) d).outcome
-        → Goes world scope depth outer edition Has (whole_left p) old new before after
+        → Adds Has old.out new.out (defined rules world unnumbered scope (here_in rules world scope depth outer p.standing p.locals) d).outcome
+        → Goes rules world scope depth outer edition Has (whole_left p) old new before after
     goes_on_behind d piece rest rust nothing ahead is here groups begun standing levels locals read adds = record {
       next = record p { here = rest; locals = d ∷ p.locals };
       at = record {
@@ -221,7 +234,7 @@ module _ (world : World Numbered) (scope : List ℕ → Option Numbered) (depth 
         levels = ap (λ (v : _). reverse v.items) levels ∙ at.levels;
         nested = nested_more (d ∷ []) p.locals p.groups at.nested;
       };
-      outcome = (defined rules world unnumbered scope (here_in world scope depth outer p.standing p.locals) d).outcome;
+      outcome = (defined rules world unnumbered scope (here_in rules world scope depth outer p.standing p.locals) d).outcome;
       is = defined_left;
       adds = adds;
       read = read;
@@ -229,52 +242,52 @@ module _ (world : World Numbered) (scope : List ℕ → Option Numbered) (depth 
     }
       where
         surroundings : Surroundings
-        surroundings = here_in world scope depth outer p.standing p.locals
+        surroundings = here_in rules world scope depth outer p.standing p.locals
 
         a : Scoped Numbered
         a = defined rules world unnumbered scope surroundings d
 
         -- by either rules, where they are Rust's
         list_is : (r : ScopeRules) (s : Begun) → r ≡ Rust → s ≡ Nothing
-            → list_left world scope depth r s surroundings p.here ≡ and_next (defined r world unnumbered scope surroundings d) (λ here. list_left world scope depth r s here rest) surroundings
+            → list_left rules world scope depth r s surroundings p.here ≡ and_next (defined r world unnumbered scope surroundings d) (λ here. list_left rules world scope depth r s here rest) surroundings
         list_is Rust Nothing u v =
-            at_definition world unnumbered scope (searched world scope depth) (deeper_at world scope depth) surroundings p.here piece rest d ahead.0 is
+            at_definition world unnumbered scope (searched rules world scope depth) (deeper_at rules world scope depth) surroundings p.here piece rest d ahead.0 is
         list_is TopLevel s u v = absurd (cc u)
         list_is Rust s u v = absurd (cc v)
 
         defined_left : whole_left p ≡ then_left a.outcome (whole_left (record p { here = rest; locals = d ∷ p.locals }))
         defined_left =
-            passed_in world scope depth outer p.begun p.begun p.standing p.locals p.here rest a (groups_left world scope depth outer p.groups) (list_is rules p.begun rust nothing)
+            passed_in rules world scope depth outer p.begun p.begun p.standing p.locals p.here rest a (groups_left rules world scope depth outer p.groups) (list_is rules p.begun rust nothing)
 
     -- ---- by the events of a traversal
 
     no_group : (f : Forest) (l : Leaf) (rest : Forest) → BeginsWithGroup f → f ≡ leaf l rest → ⊥
-    no_group f l rest begins is = let both : leaf l rest ≡ group begins.0 begins.1.0 begins.1.1.0 = sym is ∙ begins.1.1.1 in cc both
+    no_group f l rest begins is = let both : leaf l rest ≡ group begins.0 begins.1 begins.2 = sym is ∙ begins.3 in cc both
 
     not_at_end : (f : Forest) → BeginsWithGroup f → f ≡ empty → ⊥
-    not_at_end f begins is = let both : empty ≡ group begins.0 begins.1.0 begins.1.1.0 = sym is ∙ begins.1.1.1 in cc both
+    not_at_end f begins is = let both : empty ≡ group begins.0 begins.1 begins.2 = sym is ∙ begins.3 in cc both
 
     pub passes_leaf : (b : Bool) → IsPassable rules b p → (l : LeafRef) → GoesOn before.trees (Some (as_step.Leaf l)) after.trees
         → after.begun ≡ after_leaf before.begun (leaf_lent l) → after.standing ≡ before.standing → after.levels ≡ before.levels → new.locals ≡ old.locals
-        → Adds Has old.out new.out (just outer (step_of (as_step.Leaf l) ∷ [])) → Goes world scope depth outer edition Has (left_ahead world scope depth outer b p) old new before after
+        → Adds Has old.out new.out (just outer (step_of (as_step.Leaf l) ∷ [])) → Goes rules world scope depth outer edition Has (left_ahead rules world scope depth outer b p) old new before after
     passes_leaf true begins l e begun standing levels locals adds = absurd (no_group p.here (leaf_lent l) after.trees.here begins (sym at.here ∙ e.0))
     passes_leaf false pass l e begun standing levels locals adds =
         goes_leaf (leaf_lent l) pass.0 pass.1 (sym at.here ∙ e.0) e.1 begun standing levels locals adds
 
     entered_from : (b : Bool) → IsPassable rules b p → (d : Delimiter) (inner rest : Forest) → p.here ≡ group d inner rest
-        → left_ahead world scope depth outer b p ≡ then_left (just outer (opens d.kind d.open_span ∷ [])) (whole_left (in_it p (if b then Argument else standing_in d.kind p.standing) d inner rest))
-    entered_from true begins d inner rest is = ap (argument_left world scope depth outer p) is ∙ argument_is p d inner rest
+        → left_ahead rules world scope depth outer b p ≡ then_left (just outer (opens d.kind d.open_span ∷ [])) (whole_left (in_it p (if b then Argument else standing_in d.kind p.standing) d inner rest))
+    entered_from true begins d inner rest is = ap (argument_left rules world scope depth outer p) is ∙ argument_is p d inner rest
     entered_from false pass d inner rest is = group_left p d inner rest pass.0 is
 
     pub passes_in : (b : Bool) → IsPassable rules b p → (kind : DelimiterKind) (span : Span) (mid : TreeWalk) → Enters kind span before.trees mid → after.trees ≡ mid → (n : ℕ) → n ≡ length (locals_of old.locals)
         → after.levels.items ≡ before.levels.items ++ record { begun = after_group before.begun kind; standing = before.standing; locals = n } ∷ []
         → after.begun ≡ Nothing → after.standing ≡ (if b then Argument else standing_in kind before.standing) → new.locals ≡ old.locals
-        → Adds Has old.out new.out (just outer (opens kind span ∷ [])) → Goes world scope depth outer edition Has (left_ahead world scope depth outer b p) old new before after
+        → Adds Has old.out new.out (just outer (opens kind span ∷ [])) → Goes rules world scope depth outer edition Has (left_ahead rules world scope depth outer b p) old new before after
     passes_in b pass kind span mid e trees n counted levels begun standing locals adds =
         let d : Delimiter = e.brackets in
         let here : after.trees.here ≡ mid.here = ap (λ (t : TreeWalk). t.here) trees in
         let is : p.here ≡ group d after.trees.here e.behind = sym at.here ∙ e.first ∙ ap (λ f. group d f e.behind) (sym here) in
-        goes_in (left_ahead world scope depth outer b p) (if b then Argument else standing_in d.kind p.standing) d e.behind is
+        goes_in (left_ahead rules world scope depth outer b p) (if b then Argument else standing_in d.kind p.standing) d e.behind is
         (entered_from b pass d after.trees.here e.behind is)
         (ap groups_of trees ∙ e.groups ∙ ap (λ k. record { kind = k; close_span = d.close_span; behind = e.behind } ∷ groups_of before.trees) (sym e.kind_is))
         (levels ∙ (λ i. before.levels.items ++ record { begun = after_group before.begun (sym e.kind_is i); standing = before.standing; locals = counted i } ∷ []))
@@ -294,7 +307,7 @@ module _ (world : World Numbered) (scope : List ℕ → Option Numbered) (depth 
         → groups_of before.trees ≡ record { kind = kind; close_span = span; behind = mid.here } ∷ groups_of mid → after.trees ≡ mid
         → ((level : Level) (rest : List Level) → reverse before.levels.items ≡ level ∷ rest → Leaves kind level rest old.locals after new.locals)
         → (AreReadIn edition old.locals → AreReadIn edition new.locals)
-        → Adds Has old.out new.out (just outer (closes kind span ∷ [])) → Goes world scope depth outer edition Has (left_ahead world scope depth outer b p) old new before after
+        → Adds Has old.out new.out (just outer (closes kind span ∷ [])) → Goes rules world scope depth outer edition Has (left_ahead rules world scope depth outer b p) old new before after
     passes_out true begins kind span mid at_end groups trees leaves read adds = absurd (not_at_end p.here begins (sym at.here ∙ at_end))
     passes_out false pass kind span mid at_end groups trees leaves read adds =
         let (g, gs, is, first, others) = split_open p.groups (record { kind = kind; close_span = span; behind = mid.here }) (groups_of mid) (sym at.groups ∙ groups) in
@@ -321,8 +334,8 @@ module _ (world : World Numbered) (scope : List ℕ → Option Numbered) (depth 
     pub goes_kept : (beginning from_group : Forest) (mid : Search S) (there : ListWalk) → mid.locals ≡ old.locals
         → turns_left there < suc (turns_left before)
         → Adds Has old.out mid.out (just outer (walk beginning))
-        → Goes world scope depth outer edition Has (argument_left world scope depth outer (record p { here = from_group; begun = Other }) from_group) mid new there after
-        → Goes world scope depth outer edition Has (kept_left world scope depth outer beginning from_group p) old new before after
+        → Goes rules world scope depth outer edition Has (argument_left rules world scope depth outer (record p { here = from_group; begun = Other }) from_group) mid new there after
+        → Goes rules world scope depth outer edition Has (kept_left rules world scope depth outer beginning from_group p) old new before after
     goes_kept beginning from_group mid there locals less adds g = record {
       next = g.next;
       at = g.at;
@@ -337,7 +350,7 @@ module _ (world : World Numbered) (scope : List ℕ → Option Numbered) (depth 
     -- names were looked up before a turn
     pub goes_looked : (xs : List (List ℕ × Option Numbered)) (from now : Left) (old mid new : Search S) (before after : ListWalk) → from ≡ then_left (looks xs) now
         → ((o : Outcome Numbered) → Adds Has mid.out new.out o → Adds Has old.out new.out (followed_by (looks xs) o)) → mid.locals ≡ old.locals
-        → Goes world scope depth outer edition Has now mid new before after → Goes world scope depth outer edition Has from old new before after
+        → Goes rules world scope depth outer edition Has now mid new before after → Goes rules world scope depth outer edition Has from old new before after
     goes_looked xs from now old mid new before after is more locals g = record {
       next = g.next;
       at = g.at;
@@ -347,6 +360,129 @@ module _ (world : World Numbered) (scope : List ℕ → Option Numbered) (depth 
       read = λ r. g.read (subst (AreReadIn edition) (sym locals) r);
       less = g.less;
     }
+
+    -- ---- a call
+
+    module _ (old mid : Search S) (w : ListWalk) (p : Place) (at : IsAt w old.locals p) (plain : IsPlainAhead rules p) (c : Call) (e : call_at w.trees.here ≡ Some c)
+        (same_locals : mid.locals ≡ old.locals) (same_output : mid.out.output ≡ old.out.output) (same_faults : mid.out.faults ≡ old.out.faults)
+        (finds : map find_of mid.out.finds.items ≡ map find_of old.out.finds.items ++ lookups_of scope (locals_of old.locals) w.trees.here c) where
+      call_is : IsCall p.here c true
+      call_is = call_is_call p.here c (ap call_at (sym at.here) ∙ e)
+
+      xs : List (List ℕ × Option Numbered)
+      xs = lookups_of scope p.locals p.here c
+
+      resolved_is : (x : Option Numbered) → x ≡ resolved scope (locals_of old.locals) w.trees.here c → resolved scope p.locals p.here c ≡ x
+      resolved_is x is = (λ i. resolved scope (sym at.locals i) (sym at.here i) c) ∙ sym is
+
+      looked_first : (new : Search S) (o : Outcome Numbered) → Adds Has mid.out new.out o → Adds Has old.out new.out (followed_by (looks xs) o)
+      looked_first new o adds =
+          adds_looks Has old.out mid.out new.out xs o same_output same_faults
+          (finds ∙ (λ i. map find_of old.out.finds.items ++ lookups_of scope (at.locals i) (at.here i) c)) adds
+
+      pub at_mid : IsAt w mid.locals p
+      at_mid = subst (λ l. IsAt w l p) (sym same_locals) at
+
+      -- what is passed before its group
+      pub opens_before : Forest
+      opens_before = before_group call_is.path c.name call_is.bang
+
+      pub opened_so : p.here ≡ joined opens_before c.from_group
+      opened_so = call_is.opening
+
+      pub group_begins : BeginsWithGroup c.from_group
+      group_begins = (call_is.brackets, c.argument, c.rest, call_is.group_is)
+
+      -- it finds nothing
+      pub goes_unknown : (new : Search S) (after : ListWalk) → None ≡ resolved scope (locals_of old.locals) w.trees.here c
+          → Goes rules world scope depth outer edition Has (kept_left rules world scope depth outer opens_before c.from_group p) mid new w after
+          → Goes rules world scope depth outer edition Has (whole_left p) old new w after
+      goes_unknown new after nothing g =
+          goes_looked xs (whole_left p) (kept_left rules world scope depth outer opens_before c.from_group p) old mid new w after
+          (unknown_left rules world scope depth outer p plain c call_is (resolved_is None nothing)) (looked_first new) same_locals g
+
+      -- the place behind it
+      abbrev behind_it : List Definition → Place
+      behind_it ds = behind_call rules world scope depth outer p plain c ds
+
+      smaller : size c.rest < size w.trees.here
+      smaller = rest_smaller w.trees.here c e
+
+      -- the traversal goes on behind the call
+      pub record IsBehind (after : ListWalk) : Type 0 where
+        pub here : after.trees.here ≡ c.rest
+        pub groups : groups_of after.trees ≡ groups_of w.trees
+        pub begun : after.begun ≡ begun_behind c.from_group
+        pub standing : after.standing ≡ w.standing
+        pub levels : after.levels ≡ w.levels
+
+      stands_behind : (new : Search S) (after : ListWalk) (ds : List Definition) → IsBehind after → locals_of new.locals ≡ ds ++ locals_of mid.locals → IsAt after new.locals (behind_it ds)
+      stands_behind new after ds b locals = record {
+        here = b.here;
+        begun = b.begun;
+        standing = b.standing ∙ at.standing;
+        locals = locals ∙ ap (λ l. ds ++ locals_of l) same_locals ∙ ap (λ ls. ds ++ ls) at.locals;
+        groups = b.groups ∙ at.groups;
+        levels = ap (λ (v : _). reverse v.items) b.levels ∙ at.levels;
+        nested = nested_more ds p.locals p.groups at.nested;
+      }
+
+      -- it stays for a fault
+      pub goes_stays : (told new : Search S) (after : ListWalk) (d : Numbered) → Some d ≡ resolved scope (locals_of old.locals) w.trees.here c
+          → (kind : FaultKind) → answer world d depth c.argument ≡ Err kind
+          → told.out.output ≡ mid.out.output → told.out.faults.items ≡ mid.out.faults.items ++ (kind, unwrap_or outer c.name.span) ∷ [] → told.out.finds ≡ mid.out.finds
+          → ((passed : Forest) → w.trees.here ≡ joined passed c.rest → Adds Has told.out new.out (just outer (walk passed)))
+          → new.locals ≡ mid.locals → IsBehind after → Goes rules world scope depth outer edition Has (whole_left p) old new w after
+      goes_stays told new after d found kind says sink faults looked adds locals b =
+          let is = stays_left rules world scope depth outer p plain c call_is d (resolved_is (Some d) found) kind says in
+          let site : CallSite = site_of rules world scope depth p.here c true call_is in record {
+            next = behind_it [];
+            at = stands_behind new after [] b (ap locals_of locals);
+            outcome = followed_by (looks xs) (bursting is.0 (stays kind outer site));
+            is = is.1;
+            adds = looked_first new (bursting is.0 (stays kind outer site)) (bursts_too (stays kind outer site) is.0 mid new
+                (adds_stays Has mid.out told.out new.out kind outer site sink faults (ap (λ (v : _). map find_of v.items) looked) (adds site.whole (at.here ∙ call_is.whole))));
+            read = subst (AreReadIn edition) (sym (locals ∙ same_locals));
+            less = omega (arith, ap size b.here, ap steps_in b.groups, smaller);
+          }
+        where
+          bursts_too : (o : Outcome Numbered) (t : Bool) (one two : Search S) → Adds Has one.out two.out o → Adds Has one.out two.out (bursting t o)
+          bursts_too o t one two a = record { steps = a.steps; faults = a.faults; finds = a.finds }
+
+      -- its result is searched, in the surroundings of the call
+      abbrev pub result_of : Forest → Scoped Numbered
+      result_of g = searched rules world scope (depth - 1) (record { standing = w.standing; outer = Some (unwrap_or outer c.name.span); locals = locals_of mid.locals }) g
+
+      result_is : (d : Numbered) (g : Forest) → result_of g ≡ deeper rules world scope rules d (here_in rules world scope depth outer p.standing p.locals) (site_of rules world scope depth p.here c true call_is) depth g
+      result_is d g = λ i. searched rules world scope (depth - 1)
+          (record { standing = at.standing i; outer = Some (unwrap_or outer c.name.span); locals = (ap locals_of same_locals ∙ at.locals) i }) g
+
+      pub goes_comes : (new : Search S) (after : ListWalk) (d : Numbered) → Some d ≡ resolved scope (locals_of old.locals) w.trees.here c
+          → (g : Forest) → answer world d depth c.argument ≡ Ok g → Adds Has mid.out new.out (result_of g).outcome
+          → locals_of new.locals ≡ (result_of g).defines ++ locals_of mid.locals → AreReadIn edition new.locals → IsBehind after
+          → Goes rules world scope depth outer edition Has (whole_left p) old new w after
+      goes_comes new after d found g says adds locals read b =
+          let a : Scoped Numbered = result_of g in
+          let t : Bool = world.bursts d c.argument in
+          let is = comes_left rules world scope depth outer p plain c call_is d (resolved_is (Some d) found) g says in record {
+            next = behind_it a.defines;
+            at = stands_behind new after a.defines b locals;
+            outcome = followed_by (looks xs) (bursting t a.outcome);
+            is = is ∙ ap (λ (x : Scoped Numbered). then_left (followed_by (looks xs) (bursting t x.outcome)) (whole_left (behind_it x.defines))) (sym (result_is d g));
+            adds = looked_first new (bursting t a.outcome) (record { steps = adds.steps; faults = adds.faults; finds = adds.finds });
+            read = λ old_read. read;
+            less = omega (arith, ap size b.here, ap steps_in b.groups, smaller);
+          }
+
+      -- where it makes too many tokens, the whole does
+      pub answer_too_many : (d : Numbered) → Some d ≡ resolved scope (locals_of old.locals) w.trees.here c → makes_too_many world d depth c.argument ≡ true → (whole_left p).0.bursts ≡ true
+      answer_too_many d found much = answer_bursts rules world scope depth outer p plain c call_is d (resolved_is (Some d) found) much
+
+      pub result_too_many : (d : Numbered) → Some d ≡ resolved scope (locals_of old.locals) w.trees.here c → (g : Forest) → answer world d depth c.argument ≡ Ok g
+          → (result_of g).outcome.bursts ≡ true → (whole_left p).0.bursts ≡ true
+      result_too_many d found g says much =
+          result_bursts rules world scope depth outer p plain c call_is d (resolved_is (Some d) found) g says
+          (ap (λ (x : Scoped Numbered). x.outcome.bursts) (sym (result_is d g)) ∙ much)
 
     -- ---- turn by turn
 
@@ -361,19 +497,19 @@ module _ (world : World Numbered) (scope : List ℕ → Option Numbered) (depth 
 
     pub going_first : (standing : Standing) (trees : Forest) (search : Search S) (w : ListWalk) → w.trees.here ≡ trees → groups_of w.trees ≡ []
         → w.begun ≡ Nothing → w.standing ≡ standing → reverse w.levels.items ≡ [] → AreReadIn edition search.locals
-        → (let a : Scoped Numbered = searched world scope depth (here_in world scope depth outer standing (locals_of search.locals)) trees in
+        → (let a : Scoped Numbered = searched rules world scope depth (here_in rules world scope depth outer standing (locals_of search.locals)) trees in
         Going (a.outcome, a.defines ++ locals_of search.locals) search search w)
     going_first standing trees search w here groups begun standing_is levels read = record {
       place = record { here = trees; begun = Nothing; standing = standing; locals = locals_of search.locals; groups = [] };
       at = record { here = here; begun = begun; standing = standing_is; locals = refl; groups = groups; levels = levels; nested = tt };
       done = just outer [];
-      is = left_at_beginning world scope depth outer standing (locals_of search.locals) trees;
+      is = left_at_beginning rules world scope depth outer standing (locals_of search.locals) trees;
       adds = adds_just Has search.out search.out outer [] (takes_none Has search.out.output) refl refl;
       read = read;
     }
 
     pub going_on : (whole : Left) (first old new : Search S) (before after : ListWalk) (g : Going whole first old before)
-        → Goes world scope depth outer edition Has (whole_left g.place) old new before after → Going whole first new after
+        → Goes rules world scope depth outer edition Has (whole_left g.place) old new before after → Going whole first new after
     going_on whole first old new before after g t = record {
       place = t.next;
       at = t.at;

@@ -20,10 +20,10 @@ use Rattle.expander_model.specs.Pieces.{cut}
 use Rattle.expander_model.specs.Scoping.{Around, Scoped, Search, parts, definition_in, in_group, behind, only, and_next, in_brackets, defined, at_call, kept_call, search_trees, search_parts, search_list, scoped}
 use Rattle.expander_model.specs.declared.begun.Begun.{Begun}
 use Rattle.expander_model.specs.declared.begun.Begun.TheVariants.{Nothing, Pound, PoundBang, Other}
-use Rattle.expander_model.specs.declared.dialect.ScopeRules.{ScopeRules}
-use Rattle.expander_model.specs.declared.dialect.ScopeRules.TheVariants.{TopLevel, Rust}
-use Rattle.expander_model.specs.declared.dialect.Standing.{Standing}
-use Rattle.expander_model.specs.declared.dialect.Standing.TheVariants.{Top, Enclosed, Argument}
+use Rattle.expander_model.specs.declared.scope_rules.ScopeRules.{ScopeRules}
+use Rattle.expander_model.specs.declared.scope_rules.ScopeRules.TheVariants.{TopLevel, Rust}
+use Rattle.expander_model.specs.declared.scope_rules.Standing.{Standing}
+use Rattle.expander_model.specs.declared.scope_rules.Standing.TheVariants.{Top, Enclosed, Argument}
 use Rattle.expander_scope.specs.Expanding.{deeper_at, searched}
 use Rattle.expander_scope.specs.ListsLeft.{IsAhead, Left, Open, Place, list_left, in_list, groups_left, all_left, then_left, let_out, standing_in}
 use Rattle.textual_scope.specs.FromLeft.{AreOfCall, is_begun, trees_left, left_after}
@@ -35,18 +35,18 @@ use Rattle.expander_scope.proofs.OutcomeLemmas.{or_false, outcome_eq}
 
 -- ---- one list
 
-module _ (world : World Numbered) (scope : List ℕ → Option Numbered) (depth : ℕ) where
+module _ (rules : ScopeRules) (world : World Numbered) (scope : List ℕ → Option Numbered) (depth : ℕ) where
   abbrev S : Search Numbered
-  S = searched world scope depth
+  S = searched rules world scope depth
 
   abbrev deep : Option (Search Numbered)
-  deep = deeper_at world scope depth
+  deep = deeper_at rules world scope depth
 
   abbrev left : ScopeRules → Begun → Around → Forest → Scoped Numbered
-  left r s around f = list_left world scope depth r s around f
+  left r s around f = list_left rules world scope depth r s around f
 
   -- with n levels left a result is searched so
-  pub scoped_is : (n : ℕ) (around : Around) (f : Forest) → scoped world.dialect.scope world unnumbered scope n around f ≡ searched world scope n around f
+  pub scoped_is : (n : ℕ) (around : Around) (f : Forest) → scoped rules world unnumbered scope n around f ≡ searched rules world scope n around f
   scoped_is zero around f = refl
   scoped_is (suc n) around f = refl
 
@@ -55,12 +55,12 @@ module _ (world : World Numbered) (scope : List ℕ → Option Numbered) (depth 
   at_beginning Rust around f = refl
 
   -- a list is searched as what is left of it at its beginning
-  pub searched_is : (around : Around) (f : Forest) → S around f ≡ left world.dialect.scope Nothing around f
+  pub searched_is : (around : Around) (f : Forest) → S around f ≡ left rules Nothing around f
   searched_is around f =
-      same_parts world.dialect.scope world unnumbered scope deep (size f) S (search_list world.dialect.scope world unnumbered scope deep (size f))
-      (λ here g less. enough world.dialect.scope world unnumbered scope deep (size f) (suc (size g)) here g less (omega arith)) around (parts world.dialect.scope f)
-      (within_parts world.dialect.scope f)
-      ∙ at_beginning world.dialect.scope around f
+      same_parts rules world unnumbered scope deep (size f) S (search_list rules world unnumbered scope deep (size f))
+      (λ here g less. enough rules world unnumbered scope deep (size f) (suc (size g)) here g less (omega arith)) around (parts rules f)
+      (within_parts rules f)
+      ∙ at_beginning rules around f
 
   -- nothing is left
   pub left_empty : (r : ScopeRules) (s : Begun) (around : Around) → left r s around empty ≡ only (just around.outer [])
@@ -126,19 +126,17 @@ module _ (world : World Numbered) (scope : List ℕ → Option Numbered) (depth 
 pub then_assoc : (a b : Outcome Numbered) (l : Left) → then_left (followed_by a b) l ≡ then_left a (then_left b l)
 then_assoc a b l = λ i. (followed_assoc a b l.0 i, l.1)
 
-module _ (world : World Numbered) (scope : List ℕ → Option Numbered) (depth : ℕ) (outer : Option Span) where
-  abbrev rules : ScopeRules
-  rules = world.dialect.scope
+module _ (rules : ScopeRules) (world : World Numbered) (scope : List ℕ → Option Numbered) (depth : ℕ) (outer : Option Span) where
 
   abbrev pub here_in : Standing → List Definition → Around
   here_in standing locals = record { standing = standing; outer = outer; locals = locals }
 
   -- trees of a list were passed
   pub passed_in : (s t : Begun) (standing : Standing) (locals : List Definition) (f g : Forest) (a : Scoped Numbered) (next : List Definition → Left)
-      → list_left world scope depth rules s (here_in standing locals) f ≡ and_next a (λ here. list_left world scope depth rules t here g) (here_in standing locals)
-      → in_list world scope depth outer s standing locals f next ≡ then_left a.outcome (in_list world scope depth outer t standing (a.defines ++ locals) g next)
+      → list_left rules world scope depth rules s (here_in standing locals) f ≡ and_next a (λ here. list_left rules world scope depth rules t here g) (here_in standing locals)
+      → in_list rules world scope depth outer s standing locals f next ≡ then_left a.outcome (in_list rules world scope depth outer t standing (a.defines ++ locals) g next)
   passed_in s t standing locals f g a next e =
-      let b : Scoped Numbered = list_left world scope depth rules t (here_in standing (a.defines ++ locals)) g in
+      let b : Scoped Numbered = list_left rules world scope depth rules t (here_in standing (a.defines ++ locals)) g in
       ap (λ (x : Scoped Numbered). then_left x.outcome (next (x.defines ++ locals))) e
       ∙ ap (λ ls. then_left (followed_by a.outcome b.outcome) (next ls)) (append_assoc b.defines a.defines locals)
       ∙ then_assoc a.outcome b.outcome (next (b.defines ++ (a.defines ++ locals)))
@@ -157,35 +155,35 @@ module _ (world : World Numbered) (scope : List ℕ → Option Numbered) (depth 
 
   -- a group is entered: its trees are left, and then what is left behind it
   pub entered_in : (t : Begun) (standing inside : Standing) (locals : List Definition) (d : Delimiter) (inner rest : Forest) (gs : List Open)
-      → (let a : Scoped Numbered = in_brackets outer d (searched world scope depth (here_in inside locals) inner) in
-      then_left a.outcome (in_list world scope depth outer t standing (a.defines ++ locals) rest (groups_left world scope depth outer gs)))
+      → (let a : Scoped Numbered = in_brackets outer d (searched rules world scope depth (here_in inside locals) inner) in
+      then_left a.outcome (in_list rules world scope depth outer t standing (a.defines ++ locals) rest (groups_left rules world scope depth outer gs)))
       ≡ then_left (just outer (opens d.kind d.open_span ∷ []))
-      (in_list world scope depth outer Nothing inside locals inner (groups_left world scope depth outer (opened d rest t standing locals ∷ gs)))
+      (in_list rules world scope depth outer Nothing inside locals inner (groups_left rules world scope depth outer (opened d rest t standing locals ∷ gs)))
   entered_in t standing inside locals d inner rest gs =
-      let a : Scoped Numbered = searched world scope depth (here_in inside locals) inner in
+      let a : Scoped Numbered = searched rules world scope depth (here_in inside locals) inner in
       let opening : Outcome Numbered = just outer (opens d.kind d.open_span ∷ []) in
       let closing : Outcome Numbered = just outer (closes d.kind d.close_span ∷ []) in
-      let later : List Definition → Left = λ ls. in_list world scope depth outer t standing ls rest (groups_left world scope depth outer gs) in
+      let later : List Definition → Left = λ ls. in_list rules world scope depth outer t standing ls rest (groups_left rules world scope depth outer gs) in
       let whole : Scoped Numbered → Left = λ x.
       then_left x.outcome (then_left closing (later (let_out d.kind locals (x.defines ++ locals)))) in
       ap (λ ls. then_left (grouped outer d a.outcome) (later ls)) (let_out_is (is_visible d.kind) a.defines locals)
       ∙ ap (λ o. then_left o (later (let_out d.kind locals (a.defines ++ locals)))) (grouped_is d a.outcome)
       ∙ then_assoc opening (followed_by a.outcome closing) (later (let_out d.kind locals (a.defines ++ locals)))
       ∙ ap (then_left opening) (then_assoc a.outcome closing (later (let_out d.kind locals (a.defines ++ locals))))
-      ∙ ap (λ x. then_left opening (whole x)) (searched_is world scope depth (here_in inside locals) inner)
+      ∙ ap (λ x. then_left opening (whole x)) (searched_is rules world scope depth (here_in inside locals) inner)
 
   -- at the end of a list its group closes
   pub left_at_end : (s : Begun) (standing : Standing) (locals : List Definition) (gs : List Open)
-      → in_list world scope depth outer s standing locals empty (groups_left world scope depth outer gs) ≡ groups_left world scope depth outer gs locals
+      → in_list rules world scope depth outer s standing locals empty (groups_left rules world scope depth outer gs) ≡ groups_left rules world scope depth outer gs locals
   left_at_end s standing locals gs =
-      ap (λ (x : Scoped Numbered). then_left x.outcome (groups_left world scope depth outer gs (x.defines ++ locals)))
-      (left_empty world scope depth rules s (here_in standing locals))
+      ap (λ (x : Scoped Numbered). then_left x.outcome (groups_left rules world scope depth outer gs (x.defines ++ locals)))
+      (left_empty rules world scope depth rules s (here_in standing locals))
 
   -- all that is left at the beginning
   pub left_at_beginning : (standing : Standing) (locals : List Definition) (f : Forest)
-      → (let a : Scoped Numbered = searched world scope depth (here_in standing locals) f in (a.outcome, a.defines ++ locals))
-      ≡ all_left world scope depth outer (record { here = f; begun = Nothing; standing = standing; locals = locals; groups = [] })
+      → (let a : Scoped Numbered = searched rules world scope depth (here_in standing locals) f in (a.outcome, a.defines ++ locals))
+      ≡ all_left rules world scope depth outer (record { here = f; begun = Nothing; standing = standing; locals = locals; groups = [] })
   left_at_beginning standing locals f =
-      let a : Scoped Numbered = list_left world scope depth rules Nothing (here_in standing locals) f in
-      ap (λ (x : Scoped Numbered). (x.outcome, x.defines ++ locals)) (searched_is world scope depth (here_in standing locals) f)
+      let a : Scoped Numbered = list_left rules world scope depth rules Nothing (here_in standing locals) f in
+      ap (λ (x : Scoped Numbered). (x.outcome, x.defines ++ locals)) (searched_is rules world scope depth (here_in standing locals) f)
       ∙ ap (λ (o : Outcome Numbered). (o, a.defines ++ locals)) (sym (followed_by_nothing a.outcome outer))

@@ -1,7 +1,7 @@
 -- The definitions of the lists around a place.
 use Rattle.std.proofs.Common.{Bor, ◌≡◌, ◌⊎◌, inl, inr, ◌≤◌, ◌<◌, ◌+◌, ◌-◌, ◌++◌, arith, drop, take, length, length-append, ℕ, zero, suc, List, [], ◌∷◌, map, cond, refl, sym, ap, subst, ◌∙◌, Bool, true, false}
-use Rattle.std.specs.Prelude.{All, IfSome, Option, Some, None, find, option_map}
-use Rattle.std.proofs.lemmas.List.{length-drop, length-map, take-append-drop}
+use Rattle.std.specs.Prelude.{All, IfSome, Option, Some, None, find, option_map, unwrap_or}
+use Rattle.std.proofs.lemmas.List.{length-drop, take-append-drop}
 use Rattle.std.proofs.Math.Seq.{drop-append_seam}
 use Rattle.std.specs.Option.{option_copied}
 use Rattle.std.specs.Global.{Global}
@@ -10,7 +10,9 @@ use Rattle.expander_scope.specs.declared.macro_def.MacroDef.{MacroDef}
 use Rattle.std.specs.Rc.{rc_value}
 use Rattle.std.proofs.lemmas.List.Elements.{All-drop, All-head, All-tail}
 use Rattle.small_grammar.specs.Text.{same_text}
-use Rattle.expander_model.specs.Definitions.{Definition, nearest}
+use Rattle.tt_data.specs.Forest.{Forest}
+use Rattle.expander_scope.specs.MacroDefs.{definition_in}
+use Rattle.expander_model.specs.Definitions.{Definition, definition_of, nearest}
 use Rattle.expander_model.specs.Held.{Numbered, unnumbered}
 use Rattle.expander_scope.specs.LocalEntries.{Local}
 use Rattle.expander_scope.specs.Outcomes.{numbered_of_known}
@@ -90,11 +92,23 @@ drop_mapped f zero xs = refl
 drop_mapped f (suc n) [] = refl
 drop_mapped f (suc n) (x ∷ xs) = drop_mapped f n xs
 
+mapped_length : (es : List Local) → length (map (λ e. (known e).definition) es) ≡ length es
+mapped_length [] = refl
+mapped_length (e ∷ es) = ap suc (mapped_length es)
+
 -- definitions that are cut back to these
 pub cut_definitions : (old new : List Local) (front back : List Definition) → ((xs ys : List Local) → old ≡ xs ++ ys → length ys ≡ length back → new ≡ ys)
     → map (λ e. (known e).definition) old ≡ front ++ back → map (λ e. (known e).definition) new ≡ back
 cut_definitions old new front back split are =
     let n : ℕ = length front in
-    let counted : length old ≡ length front + length back = sym (length-map (λ e. (known e).definition) old) ∙ ap length are ∙ length-append front back in
+    let counted : length old ≡ length front + length back = sym (mapped_length old) ∙ ap length are ∙ length-append front back in
     let rest : new ≡ drop n old = split (take n old) (drop n old) (sym (take-append-drop n old)) (length-drop n old ∙ omega (arith, counted)) in
     ap (map (λ e. (known e).definition)) rest ∙ drop_mapped (λ e. (known e).definition) n old ∙ ap (drop n) are ∙ drop-append_seam front back
+
+-- ---- the definition of a list that was made
+
+pub known_as : (k : MacroDef) (piece : Forest) (d : Definition) → k.number ≡ 0 → k.tree.inner ≡ piece → definition_of piece ≡ Some d → numbered_of_known k ≡ unnumbered d
+known_as k piece d number tree is = λ i. record {
+  number = number i;
+  definition = (ap definition_in tree ∙ ap (λ o. unwrap_or o _) is) i;
+}

@@ -13,10 +13,10 @@ use Rattle.expander_model.specs.Calls.{marked}
 use Rattle.expander_model.specs.Expansion.{World, Outcome, Deeper, PlacedStep, expansion, just, followed_by, search_calls, placed}
 use Rattle.expander_model.specs.Faults.{is_definition_word}
 use Rattle.expander_model.specs.Held.{Numbered, unnumbered}
-use Rattle.expander_model.specs.Scoping.{Around, Scoped, expanded, only, scoped, without_locals}
-use Rattle.expander_model.specs.declared.dialect.ScopeRules.{ScopeRules}
-use Rattle.expander_model.specs.declared.dialect.ScopeRules.TheVariants.{TopLevel, Rust}
-use Rattle.expander_model.specs.declared.dialect.Standing.TheVariants.{Top}
+use Rattle.expander_model.specs.Scoping.{Around, Scoped, only, scoped, without_locals}
+use Rattle.expander_model.specs.declared.scope_rules.ScopeRules.{ScopeRules}
+use Rattle.expander_model.specs.declared.scope_rules.ScopeRules.TheVariants.{TopLevel, Rust}
+use Rattle.expander_model.specs.declared.scope_rules.Standing.TheVariants.{Top}
 use Rattle.expander_model.specs.WalkSteps.{groups_of, GoesOn}
 use Rattle.expander_model.specs.declared.tree_walk.TreeWalk.{TreeWalk}
 use Rattle.textual_scope.specs.Keywords.{HasNoKeyword}
@@ -96,35 +96,27 @@ wordless_done trees before after wordless ends =
 
 -- ---- a whole tree
 
-module _ (world : World Numbered) (depth : ℕ) (f : Forest) where
+module _ (rules : ScopeRules) (world : World Numbered) (depth : ℕ) (f : Forest) where
   abbrev nothing : List ℕ → Option Numbered
   nothing key = None
 
-  plain_expansion : (n : ℕ) → ((deeper : Deeper Numbered) → search_calls world nothing deeper None (marked f) ≡ just None (walk f)) → expansion world nothing n None f ≡ just None (walk f)
-  plain_expansion zero quiet = quiet None
-  plain_expansion (suc n) quiet = quiet (Some (expansion world nothing n))
-
-  -- by Rust's rules
-  rust_expanded : (scope : List ℕ → Option Numbered) → HasNoKeyword f → ((deeper : Deeper Numbered) → search_calls world nothing deeper None (marked f) ≡ just None (walk f))
-      → (r : ScopeRules) → scoped r world unnumbered scope depth (without_locals Top None) f ≡ only (just None (walk f))
-  rust_expanded scope wordless quiet r =
-      let around : Around = without_locals Top None in
-      let is : scoped r world unnumbered nothing depth around f ≡ only (just None (walk f)) =
-      wordless_scoped world unnumbered depth f wordless r ∙ ap only (plain_expansion depth quiet) in
-      agree_scoped r world unnumbered nothing scope depth around f
-      (subst (λ (a : Scoped Numbered). All (λ find. scope find.0 ≡ find.1) a.outcome.finds) (sym is) (All-nil (λ find. scope find.0 ≡ find.1)))
-      ∙ is
+  in_scope : (scope : List ℕ → Option Numbered) → ((deeper : Deeper Numbered) → search_calls world scope deeper None (marked f) ≡ just None (walk f))
+      → (n : ℕ) → expansion world scope n None f ≡ just None (walk f)
+  in_scope scope quiet zero = quiet None
+  in_scope scope quiet (suc n) = quiet (Some (expansion world scope n))
 
   -- a tree without calls is expanded to itself, if where lists have definitions it has no keyword of one
-  pub quiet_expanded : (scope : List ℕ → Option Numbered) → (world.dialect.scope ≡ Rust → HasNoKeyword f)
+  pub quiet_scoped : (scope : List ℕ → Option Numbered) → (rules ≡ Rust → HasNoKeyword f)
       → ((world : World Numbered) (scope : List ℕ → Option Numbered) (deeper : Deeper Numbered) (outer : Option Span) → search_calls world scope deeper outer (marked f) ≡ just outer (walk f))
-      → expanded world unnumbered scope depth f ≡ just None (walk f)
-  quiet_expanded scope wordless quiet = ap (λ (a : Scoped Numbered). a.outcome) (go world.dialect.scope wordless)
+      → scoped rules world unnumbered scope depth (without_locals Top None) f ≡ only (just None (walk f))
+  quiet_scoped scope wordless quiet = go rules wordless
     where
-      in_scope : (n : ℕ) → expansion world scope n None f ≡ just None (walk f)
-      in_scope zero = quiet world scope None None
-      in_scope (suc n) = quiet world scope (Some (expansion world scope n)) None
-
       go : (r : ScopeRules) → (r ≡ Rust → HasNoKeyword f) → scoped r world unnumbered scope depth (without_locals Top None) f ≡ only (just None (walk f))
-      go TopLevel words = top_level world unnumbered scope depth Top None f ∙ ap only (in_scope depth)
-      go Rust words = rust_expanded scope (words refl) (λ deeper. quiet world nothing deeper None) Rust
+      go TopLevel words = top_level world unnumbered scope depth Top None f ∙ ap only (in_scope scope (λ deeper. quiet world scope deeper None) depth)
+      go Rust words =
+          let around : Around = without_locals Top None in
+          let is : scoped Rust world unnumbered nothing depth around f ≡ only (just None (walk f)) =
+          wordless_scoped world unnumbered depth f (words refl) ∙ ap only (in_scope nothing (λ deeper. quiet world nothing deeper None) depth) in
+          agree_scoped Rust world unnumbered nothing scope depth around f
+          (subst (λ (a : Scoped Numbered). All (λ find. scope find.0 ≡ find.1) a.outcome.finds) (sym is) (All-nil (λ find. scope find.0 ≡ find.1)))
+          ∙ is

@@ -15,10 +15,10 @@ use Rattle.expander_model.specs.PieceStates.{after_leaf, after_group}
 use Rattle.expander_model.specs.Pieces.{cut}
 use Rattle.expander_model.specs.Scoping.{Around, Scoped, Search, and_next, in_brackets, search_trees}
 use Rattle.expander_model.specs.declared.begun.Begun.{Begun}
-use Rattle.expander_model.specs.declared.dialect.ScopeRules.{ScopeRules}
-use Rattle.expander_model.specs.declared.dialect.ScopeRules.TheVariants.{TopLevel, Rust}
-use Rattle.expander_model.specs.declared.dialect.Standing.{Standing}
-use Rattle.expander_model.specs.declared.dialect.Standing.TheVariants.{Top, Enclosed}
+use Rattle.expander_model.specs.declared.scope_rules.ScopeRules.{ScopeRules}
+use Rattle.expander_model.specs.declared.scope_rules.ScopeRules.TheVariants.{TopLevel, Rust}
+use Rattle.expander_model.specs.declared.scope_rules.Standing.{Standing}
+use Rattle.expander_model.specs.declared.scope_rules.Standing.TheVariants.{Top, Enclosed}
 use Rattle.expander_scope.specs.Expanding.{deeper_at, searched}
 use Rattle.textual_scope.specs.FromLeft.{left_after}
 
@@ -74,14 +74,15 @@ then_left o l = (followed_by o l.0, l.1)
 abbrev pub let_out : DelimiterKind → List Definition → List Definition → List Definition
 let_out k around inside = if is_visible k then around else inside
 
-module _ (world : World Numbered) (scope : List ℕ → Option Numbered) (depth : ℕ) where
+module _ (rules : ScopeRules) (world : World Numbered) (scope : List ℕ → Option Numbered)
+    (depth : ℕ) where
   -- the search of the trees left in a list
   abbrev pub list_left : ScopeRules → Begun → Around → Forest → Scoped Numbered
   list_left TopLevel s around f =
-      search_trees TopLevel world unnumbered scope (searched world scope depth)
-      (deeper_at world scope depth) around (marked f)
+      search_trees TopLevel world unnumbered scope (searched rules world scope depth)
+      (deeper_at rules world scope depth) around (marked f)
   list_left Rust s around f =
-      left_after world unnumbered scope (searched world scope depth) (deeper_at world scope depth)
+      left_after world unnumbered scope (searched rules world scope depth) (deeper_at rules world scope depth)
       s around f
 
   module _ (outer : Option Span) where
@@ -90,7 +91,7 @@ module _ (world : World Numbered) (scope : List ℕ → Option Numbered) (depth 
         → Left
     in_list s standing locals f next =
         let a : Scoped Numbered =
-        list_left world.dialect.scope s
+        list_left rules s
         (record { standing = standing; outer = outer; locals = locals }) f in
         then_left a.outcome (next (a.defines ++ locals))
 

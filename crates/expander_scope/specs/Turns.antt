@@ -19,10 +19,9 @@ use Rattle.expander_model.specs.WalkSteps.{groups_of}
 use Rattle.expander_model.specs.declared.begun.Begun.{Begun}
 use Rattle.expander_model.specs.declared.begun.Begun.TheVariants as begun
 use Rattle.expander_model.specs.declared.call.Call.{Call}
-use Rattle.expander_model.specs.declared.dialect.Dialect.{Dialect}
-use Rattle.expander_model.specs.declared.dialect.ScopeRules.{ScopeRules}
-use Rattle.expander_model.specs.declared.dialect.ScopeRules.TheVariants.{Rust}
-use Rattle.expander_model.specs.declared.dialect.Standing.TheVariants.{Argument}
+use Rattle.expander_model.specs.declared.scope_rules.ScopeRules.{ScopeRules}
+use Rattle.expander_model.specs.declared.scope_rules.ScopeRules.TheVariants.{Rust}
+use Rattle.expander_model.specs.declared.scope_rules.Standing.TheVariants.{Argument}
 use Rattle.expander_model.specs.declared.fault.FaultKind.{FaultKind}
 use Rattle.expander_model.specs.declared.fault.FaultKind.TheVariants.{BrokenDefinition}
 use Rattle.expander_model.specs.declared.tree_walk.Around.{Around}
@@ -121,18 +120,18 @@ abbrev pub IsPassable : ScopeRules → Bool → Place → Type 0
 IsPassable rules true p = BeginsWithGroup p.here
 IsPassable rules false p = IsPlainAhead rules p × IsNoCall p
 
-module _ (world : World Numbered) (scope : List ℕ → Option Numbered) (depth : ℕ)
-    (outer : Option Span) where
+module _ (rules : ScopeRules) (world : World Numbered) (scope : List ℕ → Option Numbered)
+    (depth : ℕ) (outer : Option Span) where
   -- what is left where the group ahead is that of a call that stays
   abbrev pub argument_left : Place → Forest → Left
   argument_left p (group d inner rest) =
       let a : Scoped Numbered =
-      in_brackets outer d (searched world scope depth
+      in_brackets outer d (searched rules world scope depth
       (record { standing = Argument; outer = outer; locals = p.locals }) inner) in
       then_left a.outcome
-      (in_list world scope depth outer (after_group p.begun d.kind) p.standing
-      (a.defines ++ p.locals) rest (groups_left world scope depth outer p.groups))
-  argument_left p _ = all_left world scope depth outer p
+      (in_list rules world scope depth outer (after_group p.begun d.kind) p.standing
+      (a.defines ++ p.locals) rest (groups_left rules world scope depth outer p.groups))
+  argument_left p _ = all_left rules world scope depth outer p
 
   -- what is left of a call that stays: the trees before its group, its group, and the rest
   abbrev pub kept_left : Forest → Forest → Place → Left
@@ -143,7 +142,7 @@ module _ (world : World Numbered) (scope : List ℕ → Option Numbered) (depth 
   -- what is left, where the group ahead may be that of such a call
   abbrev pub left_ahead : Bool → Place → Left
   left_ahead true p = argument_left p p.here
-  left_ahead false p = all_left world scope depth outer p
+  left_ahead false p = all_left rules world scope depth outer p
 
   -- `Has` tells which events a sink has taken. The search went on from what was left to another
   -- place, and added what comes between
@@ -152,18 +151,18 @@ module _ (world : World Numbered) (scope : List ℕ → Option Numbered) (depth 
     pub next : Place
     pub at : IsAt after new.locals next
     pub outcome : Outcome Numbered
-    pub is : from ≡ then_left outcome (all_left world scope depth outer next)
+    pub is : from ≡ then_left outcome (all_left rules world scope depth outer next)
     pub adds : Adds Has old.out new.out outcome
     pub read : AreReadIn edition old.locals → AreReadIn edition new.locals
     pub less : turns_left after < turns_left before
 
--- the same by this grammar and dialect, in the scope of this table
-abbrev pub left_under : Grammar → Dialect → table.Scope → ℕ → Option Span → Place → Left
-left_under grammar dialect s depth outer p =
-    all_left (world_under grammar dialect s) (scope_in s) depth outer p
+-- the same by this grammar and these rules, in the scope of this table
+abbrev pub left_under : ScopeRules → Grammar → table.Scope → ℕ → Option Span → Place → Left
+left_under rules grammar s depth outer p =
+    all_left rules (world_under grammar s) (scope_in s) depth outer p
 
-abbrev pub GoesUnder : Grammar → Dialect → table.Scope → ℕ → Option Span → {S : Type 0}
+abbrev pub GoesUnder : ScopeRules → Grammar → table.Scope → ℕ → Option Span → {S : Type 0}
     → (S → List PlacedStep → Type 0) → Place → Search S → Search S → ListWalk → ListWalk → Type 0
-GoesUnder grammar dialect s depth outer Has p old new before after =
-    Goes (world_under grammar dialect s) (scope_in s) depth outer s.edition Has
-    (left_under grammar dialect s depth outer p) old new before after
+GoesUnder rules grammar s depth outer Has p old new before after =
+    Goes rules (world_under grammar s) (scope_in s) depth outer s.edition Has
+    (left_under rules grammar s depth outer p) old new before after

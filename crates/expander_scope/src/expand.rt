@@ -20,7 +20,8 @@ ghost use Rattle.expander_model.specs.World.{fit_of, made, world};
 ghost use Rattle.textual_scope.specs.Keywords.{HasNoKeyword};
 ghost use Rattle.expander_scope.specs.Editions.{IsRead};
 ghost use Rattle.expander_scope.specs.Expanding.{Adds, Expands, answer, around_in, makes_too_many, searched_under, trees_of, world_under};
-ghost use Rattle.expander_scope.specs.ListsLeft.{IsAhead, Place};
+ghost use Rattle.expander_model.specs.declared.scope_rules.Standing.TheVariants.{Argument};
+ghost use Rattle.expander_scope.specs.ListsLeft.{IsAhead, Place, standing_in};
 ghost use Rattle.expander_scope.specs.LocalTables.{AreReadIn, locals_of};
 ghost use Rattle.expander_scope.specs.Outcomes.{find_of, numbered_of_known, parts_for, parts_of};
 ghost use Rattle.expander_scope.specs.Sinks.{TakesMore};
@@ -37,14 +38,17 @@ use bridge::parts::TokenEvent;
 use expander_model::call::{Beginning, Call, beginning_of, call_at, call_behind_colons, key_at};
 use expander_model::begun::Begun;
 use expander_model::definition::definition_of;
-use expander_model::dialect::{Dialect, ScopeRules, Standing};
+use expander_model::scope_rules::{ScopeRules, Standing};
 use expander_model::fault::{FaultKind, is_definition_word};
 use expander_model::tree_walk::TreeWalk;
 use mbe::{DeclarativeMacro, FragmentGrammar, MacroCallStyle};
 use std::alloc::{AllocError, Global};
 use std::rc::Rc;
 use tt::{TopSubtree, TtIter};
-use tt_data::{Delimiter, Span, Symbol, SyntaxContext, TtFault};
+use tt_data::{Delimiter, DelimiterKind, Span, Symbol, SyntaxContext, TtFault};
+
+// The rules by which a tree is expanded: no caller asks for others yet.
+const RULES: ScopeRules = ScopeRules::TopLevel;
 
 /// What a tree is expanded in: the grammar, the definitions before it, and how many levels of
 /// calls may be expanded.
@@ -58,8 +62,6 @@ pub struct Environment<'a, G> {
     pub grammar: &'a G,
     /// Resolves names.
     pub scope: &'a Scope,
-    /// By which rules lists are searched.
-    pub dialect: Dialect,
     /// How many levels of calls may still be expanded.
     pub depth: u8,
 }
@@ -74,7 +76,6 @@ impl<'a, G> Environment<'a, G> {
             alloc: self.alloc,
             grammar: self.grammar,
             scope: self.scope,
-            dialect: self.dialect,
             depth: self.depth - 1,
         }
     }
@@ -187,11 +188,11 @@ fn answer<G: FragmentGrammar>(
 ) -> Result<Result<TopSubtree, FaultKind>, TtFault>
     ensures given { (edition : Edition) → IsRead edition known.now →
         IfOk result (λ given. trees_of given
-        ≡ answer (numbered_world (world (G.answer env.now.grammar.now) edition env.now.dialect))
+        ≡ answer (numbered_world (world (G.answer env.now.grammar.now) edition))
         (numbered_of_known known.now) env.now.depth argument.now) }
     ensures deep { IfOk result (λ given. OnOk given (0 < env.now.depth)) }
     ensures tokens { (edition : Edition) → IsRead edition known.now → result ≡ Err TtFault.Tokens →
-        makes_too_many (numbered_world (world (G.answer env.now.grammar.now) edition env.now.dialect))
+        makes_too_many (numbered_world (world (G.answer env.now.grammar.now) edition))
         (numbered_of_known known.now) env.now.depth argument.now ≡ true }
 {
     if known.rules.err().is_some() {
@@ -204,9 +205,11 @@ fn answer<G: FragmentGrammar>(
     Ok(result.ok_or(FaultKind::CannotExpand))
 }
 
-// An expansion so far, and the definitions of the lists around the present place.
+// An expansion so far, by which rules, and the definitions of the lists around the present place.
 #[derive(Drop)]
 struct Search<S> {
+    // Which definitions names can find.
+    rules: ScopeRules,
     out: Expanding<S>,
     locals: Locals,
 }
@@ -279,8 +282,9 @@ fn resolve<G, S>(
     requires locals { AreReadIn env.now.scope.now.edition search.old.locals }
     ensures found { IfOk result (λ given. option_map (λ k. numbered_of_known k.value) given
         ≡ resolved (scope_in env.now.scope.now) (locals_of search.old.locals) trees.now call.now) }
-    ensures rules { IfOk result (λ given.
+    ensures known { IfOk result (λ given.
         IfSome given (λ k. IsRead env.now.scope.now.edition k.value)) }
+    ensures rules { search.new.rules ≡ search.old.rules }
     ensures locals { search.new.locals ≡ search.old.locals }
     ensures output { search.new.out.output ≡ search.old.out.output }
     ensures faults { search.new.out.faults ≡ search.old.out.faults }
@@ -290,11 +294,22 @@ fn resolve<G, S>(
         call.now) }
     ensures memory { IsOkUnless result Memory }
 {
-    if let Some(known) = local_of(&search.locals, trees, call)? {
+    let local = local_of(&search.locals, trees, call)?;
+    if let Some(known) = local {
         return Ok(Some(known));
     }
     let key = key_at(env.alloc, trees, call)?;
     Ok(look_up(env.scope, &mut search.out.finds, key)?)
+}
+
+// Where the list in a group is, which may be that of a call that stays.
+fn standing_inside(is_argument: bool, kind: DelimiterKind, standing: Standing) -> Standing
+    ensures { result ≡ (if is_argument then Argument else standing_in kind standing) }
+{
+    if is_argument {
+        return Standing::Argument;
+    }
+    standing_in(kind, standing)
 }
 
 // Emits the next event, and passes it: a leaf, the opening of a group or its closing. `false` at
@@ -309,9 +324,11 @@ fn pass_event<S: EventSink>(
         IsAt walk.old search.old.locals p → (p.here ≡ empty) × (p.groups ≡ []))) }
     ensures turn { IfOk result (λ more. more ≡ true → (world : World Numbered) (scope : List ℕ →
         Option Numbered) (depth : ℕ) (edition : Edition) (p : Place) →
-        IsAt walk.old search.old.locals p → IsPassable world.dialect.scope is_argument p →
-        Goes world scope depth outer edition S.has_taken (left_ahead world scope depth outer is_argument p)
+        IsAt walk.old search.old.locals p → IsPassable search.old.rules is_argument p →
+        Goes search.old.rules world scope depth outer edition S.has_taken
+        (left_ahead search.old.rules world scope depth outer is_argument p)
         search.old search.new walk.old walk.new) }
+    ensures rules { search.new.rules ≡ search.old.rules }
 {
     let Some(step) = walk.trees.next()? else {
         return Ok(false);
@@ -320,11 +337,7 @@ fn pass_event<S: EventSink>(
     match step {
         TokenEvent::Leaf(leaf) => walk.begun = walk.begun.with_leaf(leaf),
         TokenEvent::Opens(kind, _) => {
-            let inside = if is_argument {
-                Standing::Argument
-            } else {
-                standing_in(kind, walk.standing)
-            };
+            let inside = standing_inside(is_argument, kind, walk.standing);
             walk.enter(kind, search.locals.len(), inside)?;
         }
         TokenEvent::Closes(kind, _) => walk.leave(kind, &mut search.locals),
@@ -344,9 +357,11 @@ fn keep_call<'a, S: EventSink>(
     ensures turn { OnOk result ((world : World Numbered) (scope : List ℕ → Option Numbered)
         (depth : ℕ) (edition : Edition) (p : Place) (before : Forest) →
         IsAt walk.old search.old.locals p → p.here ≡ joined before from_group.entry →
-        BeginsWithGroup from_group.entry → Goes world scope depth outer edition S.has_taken
-        (kept_left world scope depth outer before from_group.entry p)
+        BeginsWithGroup from_group.entry →
+        Goes search.old.rules world scope depth outer edition S.has_taken
+        (kept_left search.old.rules world scope depth outer before from_group.entry p)
         search.old search.new walk.old walk.new) }
+    ensures rules { search.new.rules ≡ search.old.rules }
 {
     keep(alloc, outer, &mut search.out, &mut walk.trees.here, from_group)?;
     walk.begun = Begun::Other;
@@ -397,13 +412,14 @@ fn define<G: FragmentGrammar, S: EventSink>(
     requires definition { is_some (definition_of piece.now) ≡ true }
     ensures adds { OnOk result ((rules : ScopeRules) (d : Definition) (locals : List Definition) →
         definition_of piece.now ≡ Some d → Adds S.has_taken search.old.out search.new.out
-        (defined rules (world_under (G.answer env.now.grammar.now) env.now.dialect
-        env.now.scope.now) unnumbered (scope_in env.now.scope.now)
+        (defined rules (world_under (G.answer env.now.grammar.now) env.now.scope.now) unnumbered
+        (scope_in env.now.scope.now)
         (record { standing = standing; outer = outer; locals = locals }) d).outcome) }
     ensures locals { OnOk result ((d : Definition) → definition_of piece.now ≡ Some d →
         locals_of search.new.locals ≡ d ∷ locals_of search.old.locals) }
     ensures read { OnOk result (AreReadIn env.now.scope.now.edition search.old.locals →
         AreReadIn env.now.scope.now.edition search.new.locals) }
+    ensures rules { search.new.rules ≡ search.old.rules }
     ensures memory { IsOkUnless result Memory }
 {
     let Some(definition) = definition_of(piece) else {
@@ -412,7 +428,7 @@ fn define<G: FragmentGrammar, S: EventSink>(
     let place = definition.name.span;
     let known = MacroDef::in_list(env.alloc, env.scope.edition, piece, place)?;
     tell_broken(&mut search.out.faults, &known, outer.unwrap_or(place))?;
-    show_definition(env.alloc, outer, &mut search.out.output, standing, piece)?;
+    show_definition(env.alloc, outer, &mut search.out.output, standing, &definition.piece)?;
     match Rc::new(env.alloc, known) {
         Ok(known) => search.locals.push(known)?,
         Err(_) => return Err(TtFault::Memory),
@@ -422,13 +438,13 @@ fn define<G: FragmentGrammar, S: EventSink>(
 
 // The definition with which a piece begins at the present place, and what follows it. `None` in
 // the midst of a piece, and where lists have no definitions.
-fn piece_ahead<'a>(dialect: Dialect, walk: &ListWalk<'a>) -> Option<(TtIter<'a>, TtIter<'a>)>
+fn piece_ahead<'a>(rules: ScopeRules, walk: &ListWalk<'a>) -> Option<(TtIter<'a>, TtIter<'a>)>
     ensures some { IfSome result (λ found. (walk.now.begun ≡ Begun.Nothing)
-        × (dialect.scope ≡ ScopeRules.Rust) × IsAhead walk.now.trees.here (Some found)) }
-    ensures none { IfNone result (dialect.scope ≡ ScopeRules.Rust → walk.now.begun ≡ Begun.Nothing →
+        × (rules ≡ ScopeRules.Rust) × IsAhead walk.now.trees.here (Some found)) }
+    ensures none { IfNone result (rules ≡ ScopeRules.Rust → walk.now.begun ≡ Begun.Nothing →
         IsAhead walk.now.trees.here None) }
 {
-    if walk.begun == Begun::Nothing && dialect.scope == ScopeRules::Rust {
+    if walk.begun == Begun::Nothing && rules == ScopeRules::Rust {
         definition_ahead(&walk.trees.here)
     } else {
         None
@@ -462,13 +478,14 @@ fn expand_call<'a, G: FragmentGrammar, S: EventSink>(
     requires read { AreRead env.now.scope.now }
     requires locals { AreReadIn env.now.scope.now.edition search.old.locals }
     ensures turn { OnOk result ((p : Place) → IsAt walk.old search.old.locals p →
-        IsPlainAhead env.now.dialect.scope p → GoesUnder (G.answer env.now.grammar.now)
-        env.now.dialect env.now.scope.now env.now.depth outer S.has_taken p
+        IsPlainAhead search.old.rules p → GoesUnder search.old.rules
+        (G.answer env.now.grammar.now) env.now.scope.now env.now.depth outer S.has_taken p
         search.old search.new walk.old walk.new) }
+    ensures rules { OnOk result (search.new.rules ≡ search.old.rules) }
     ensures tokens { result ≡ Err TtFault.Tokens → (p : Place) →
-        IsAt walk.old search.old.locals p → IsPlainAhead env.now.dialect.scope p →
-        (left_under (G.answer env.now.grammar.now) env.now.dialect env.now.scope.now env.now.depth
-        outer p).0.bursts ≡ true }
+        IsAt walk.old search.old.locals p → IsPlainAhead search.old.rules p →
+        (left_under search.old.rules (G.answer env.now.grammar.now) env.now.scope.now
+        env.now.depth outer p).0.bursts ≡ true }
 {
     let Some(known) = resolve(env, search, &walk.trees.here, &call)? else {
         keep_call(env.alloc, outer, search, walk, call.from_group)?;
@@ -503,21 +520,22 @@ fn search_list<G: FragmentGrammar, S: EventSink>(
     requires read { AreRead env.now.scope.now }
     requires locals { AreReadIn env.now.scope.now.edition search.old.locals }
     ensures adds { OnOk result (Adds S.has_taken search.old.out search.new.out
-        (searched_under (G.answer env.now.grammar.now) env.now.dialect env.now.scope.now
+        (searched_under search.old.rules (G.answer env.now.grammar.now) env.now.scope.now
         env.now.depth (around_in standing outer search.old.locals) trees.now).outcome) }
     ensures locals { OnOk result (locals_of search.new.locals
-        ≡ (searched_under (G.answer env.now.grammar.now) env.now.dialect env.now.scope.now
+        ≡ (searched_under search.old.rules (G.answer env.now.grammar.now) env.now.scope.now
         env.now.depth (around_in standing outer search.old.locals) trees.now).defines
         ++ locals_of search.old.locals) }
     ensures read { OnOk result (AreReadIn env.now.scope.now.edition search.new.locals) }
+    ensures rules { OnOk result (search.new.rules ≡ search.old.rules) }
     ensures tokens { result ≡ Err TtFault.Tokens →
-        (searched_under (G.answer env.now.grammar.now) env.now.dialect env.now.scope.now
+        (searched_under search.old.rules (G.answer env.now.grammar.now) env.now.scope.now
         env.now.depth (around_in standing outer search.old.locals) trees.now).outcome.bursts
         ≡ true }
 {
     let mut walk = ListWalk::new(env.alloc, trees, standing);
     'turns: loop {
-        if let Some((piece, rest)) = piece_ahead(env.dialect, &walk) {
+        if let Some((piece, rest)) = piece_ahead(search.rules, &walk) {
             define(env, outer, search, walk.standing, &piece)?;
             walk.trees.go_on(rest);
             continue 'turns;
@@ -545,14 +563,14 @@ fn search_list<G: FragmentGrammar, S: EventSink>(
 // lists have definitions no keyword of one. Such trees stay as they are.
 fn is_quiet(
     alloc: Global,
-    dialect: Dialect,
+    rules: ScopeRules,
     trees: &TtIter<'_>,
 ) -> Result<bool, AllocError>
     ensures calls { IfOk result (λ quiet. quiet ≡ true →
         (world : World Numbered) (scope : List ℕ → Option Numbered) (deeper : Deeper Numbered)
         (outer : Option Span) →
         search_calls world scope deeper outer (marked trees.now) ≡ just outer (walk trees.now)) }
-    ensures words { IfOk result (λ quiet. quiet ≡ true → dialect.scope ≡ ScopeRules.Rust →
+    ensures words { IfOk result (λ quiet. quiet ≡ true → rules ≡ ScopeRules.Rust →
         HasNoKeyword trees.now) }
 {
     let mut rest = TreeWalk::new(alloc, trees);
@@ -566,7 +584,7 @@ fn is_quiet(
         let Some(step) = rest.next()? else {
             return Ok(true);
         };
-        if dialect.scope == ScopeRules::Rust && is_definition_word(&step) {
+        if rules == ScopeRules::Rust && is_definition_word(&step) {
             return Ok(false);
         }
     }
@@ -598,13 +616,14 @@ pub fn expand_into<G: FragmentGrammar, S: EventSink>(
 ) -> Result<Expanding<S>, TtFault>
     requires { AreRead env.now.scope.now }
     ensures expands { IfOk result (λ given. Expands S.has_taken sink given
-        (expanded_under (G.answer env.now.grammar.now) env.now.dialect env.now.scope.now
-        env.now.depth tree.now.inner)) }
+        (expanded_under (G.answer env.now.grammar.now) env.now.scope.now env.now.depth
+        tree.now.inner)) }
     ensures tokens { result ≡ Err TtFault.Tokens →
-        (expanded_under (G.answer env.now.grammar.now) env.now.dialect env.now.scope.now
-        env.now.depth tree.now.inner).bursts ≡ true }
+        (expanded_under (G.answer env.now.grammar.now) env.now.scope.now env.now.depth
+        tree.now.inner).bursts ≡ true }
 {
     let mut search = Search {
+        rules: RULES,
         out: Expanding {
             output: sink,
             faults: Vec::new(env.alloc),
@@ -627,14 +646,14 @@ pub fn expand_piece<G: FragmentGrammar>(
 ) -> Result<Outcome, TtFault>
     requires { AreRead env.now.scope.now }
     ensures outcome { IfOk result (λ o. parts_for tree.now.inner o ≡ parts_of
-        (expanded_under (G.answer env.now.grammar.now) env.now.dialect env.now.scope.now
-        env.now.depth tree.now.inner)) }
+        (expanded_under (G.answer env.now.grammar.now) env.now.scope.now env.now.depth
+        tree.now.inner)) }
     ensures tokens { result ≡ Err TtFault.Tokens →
-        (expanded_under (G.answer env.now.grammar.now) env.now.dialect env.now.scope.now
-        env.now.depth tree.now.inner).bursts ≡ true }
+        (expanded_under (G.answer env.now.grammar.now) env.now.scope.now env.now.depth
+        tree.now.inner).bursts ≡ true }
 {
     let alloc = env.alloc;
-    let quiet = is_quiet(alloc, env.dialect, &tree.iter())?;
+    let quiet = is_quiet(alloc, RULES, &tree.iter())?;
     if quiet {
         return Ok(unchanged(alloc));
     }

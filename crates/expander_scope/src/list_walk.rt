@@ -10,7 +10,7 @@ ghost use Rattle.expander_scope.specs.LocalTables.{AreReadIn};
 use crate::locals::Locals;
 use expander_model::begun::Begun;
 use expander_model::definition::definition_of;
-use expander_model::dialect::Standing;
+use expander_model::scope_rules::Standing;
 use expander_model::split::next_piece;
 use expander_model::tree_walk::TreeWalk;
 use small_grammar::names::has_text;

@@ -19,11 +19,11 @@ use Rattle.expander_model.specs.Definitions.{Definition, nearest}
 use Rattle.expander_model.specs.Expansion.{World, Outcome, CallSite, just, followed_by, grouped, faulted, found, bursting, before_group, whole_call}
 use Rattle.expander_model.specs.OtherPlaces.{definition_with}
 use Rattle.expander_model.proofs.DefinitionPlaceLemmas.{definition_of-with}
-use Rattle.expander_model.specs.declared.dialect.ScopeRules.{ScopeRules}
-use Rattle.expander_model.specs.declared.dialect.ScopeRules.TheVariants.{TopLevel, Rust}
+use Rattle.expander_model.specs.declared.scope_rules.ScopeRules.{ScopeRules}
+use Rattle.expander_model.specs.declared.scope_rules.ScopeRules.TheVariants.{TopLevel, Rust}
 use Rattle.textual_scope.specs.ScopeChanges.{around_with, scoped_with}
-use Rattle.expander_model.specs.declared.dialect.Standing.TheVariants.{Top, Enclosed, Argument}
-use Rattle.expander_model.specs.declared.dialect.Standing.{Standing}
+use Rattle.expander_model.specs.declared.scope_rules.Standing.TheVariants.{Top, Enclosed, Argument}
+use Rattle.expander_model.specs.declared.scope_rules.Standing.{Standing}
 use Rattle.expander_model.specs.Scoping.{Around, Scoped, Search, parts, definition_in, is_left_out, in_group, behind, only, and_next, in_brackets, defined, fitted, at_level, unbroken, looked_up, at_key, at_call, kept_call, search_trees, search_part, search_parts, search_list, scoped}
 use Rattle.textual_scope.proofs.MarkChangeLemmas.{ident_with, punct_with, path_with, marked_with, marked-with, in_front-with, unmarked-with, cut-with, outer-with, site_with, followed-with, just-with, walk-with, grouped-with, stays-with}
 use Rattle.textual_scope.proofs.ResultLemmas.{scoped_same}

@@ -18,7 +18,7 @@ use Rattle.expander_model.specs.Definitions.{Definition, after_attributes, after
 use Rattle.expander_model.specs.Faults.{is_definition_word}
 use Rattle.expander_model.specs.Pieces.{cut, cut_from, ends_piece}
 use Rattle.small_grammar.specs.Text.{has_text}
-use Rattle.expander_model.specs.declared.dialect.ScopeRules.TheVariants.{Rust}
+use Rattle.expander_model.specs.declared.scope_rules.ScopeRules.TheVariants.{Rust}
 use Rattle.textual_scope.specs.Keywords.{HasNoKeyword}
 use Rattle.textual_scope.proofs.MarkLemmas.{AllInside, inside_leaf, unmarked-marked}
 use Rattle.textual_scope.proofs.PlainLemmas.{ArePlain}

@@ -23,7 +23,7 @@ use Rattle.expander_model.specs.PieceStates.{begun_with, after_leaf, after_group
 use Rattle.expander_model.specs.Pieces.{cut, cut_from, ends_piece, is_pound_bang}
 use Rattle.expander_model.specs.declared.begun.Begun.{Begun}
 use Rattle.expander_model.specs.declared.begun.Begun.TheVariants.{Nothing, Pound, PoundBang, Other}
-use Rattle.expander_model.specs.declared.dialect.ScopeRules.TheVariants.{Rust}
+use Rattle.expander_model.specs.declared.scope_rules.ScopeRules.TheVariants.{Rust}
 use Rattle.textual_scope.specs.FromLeft.{is_begun, piece_ahead, with_leaf, with_group, AreOfCall, pieces_left, trees_left, left_after}
 use Rattle.expander_model.specs.Scoping.{Around, Scoped, Search, in_group, only, and_next, in_brackets, defined, at_call, kept_call, search_trees, search_part, search_parts}
 use Rattle.textual_scope.proofs.ChainLemmas.{chain, IsShut, IsEnd, end_leaf, end_at_leaf, end_at_group, end_behind, leaf_chain, shut_leaf}

@@ -5,9 +5,9 @@ use Prim.Native.String.{String}
 use Rattle.expander_model.specs.Definitions.{nearest}
 use Rattle.expander_model.specs.Meaning.{definitions_after}
 use Rattle.expander_model.specs.Pieces.{pieces}
-use Rattle.expander_model.specs.declared.dialect.ScopeRules.TheVariants.{Rust}
+use Rattle.expander_model.specs.declared.scope_rules.ScopeRules.TheVariants.{Rust}
 use Rattle.textual_scope.specs.Limits.{too_large}
-use Rattle.expander_model.specs.declared.dialect.Standing.TheVariants.{Top}
+use Rattle.expander_model.specs.declared.scope_rules.Standing.TheVariants.{Top}
 use Rattle.expander_model.specs.Scoping.{without_locals}
 use Rattle.textual_scope.proofs.Lines.{trees}
 use Rattle.textual_scope.proofs.Rows.{toy}
@@ -17,7 +17,7 @@ use Rattle.textual_scope.proofs.Rows.{toy}
 abbrev passed : ℕ → ℕ → String → String → Option (List (List ℕ))
 passed calls tokens before line =
     option_map (map (λ find. find.0))
-    (too_large Rust (toy Rust) (λ d. d) (nearest (definitions_after [] (pieces (trees before))))
+    (too_large Rust toy (λ d. d) (nearest (definitions_after [] (pieces (trees before))))
     (record { calls = calls; tokens = tokens }) 2 (without_locals Top None) (trees line))
 
 -- six tokens, twelve and twenty-four of seven calls in all

@@ -10,9 +10,9 @@ use Rattle.expander_model.specs.Calls.{Path, bare, from_crate, other, Marked, no
 use Rattle.expander_model.specs.Definitions.{Definition}
 use Rattle.expander_model.specs.Expansion as expanding
 use Rattle.expander_model.specs.Expansion.{World, Outcome, Deeper, CallSite, just, followed_by, grouped, found, bursting, before_group, whole_call, search_calls, expansion}
-use Rattle.expander_model.specs.declared.dialect.ScopeRules.{ScopeRules}
-use Rattle.expander_model.specs.declared.dialect.Standing.TheVariants.{Argument}
-use Rattle.expander_model.specs.declared.dialect.Standing.{Standing}
+use Rattle.expander_model.specs.declared.scope_rules.ScopeRules.{ScopeRules}
+use Rattle.expander_model.specs.declared.scope_rules.Standing.TheVariants.{Argument}
+use Rattle.expander_model.specs.declared.scope_rules.Standing.{Standing}
 use Rattle.expander_model.specs.Scoping.{without_locals, Scoped, Search, parts, definition_in, in_group, only, in_brackets, fitted, at_level, unbroken, looked_up, at_key, at_call, search_trees, search_part, search_parts, search_list, scoped}
 use Rattle.textual_scope.proofs.ChainLemmas.{each}
 use Rattle.textual_scope.proofs.MarkLemmas.{AllInside, IsBelow, inside_marked}

@@ -10,9 +10,9 @@ use Rattle.tt_data.specs.declared.leaf.Ident.{Ident}
 use Rattle.expander_model.specs.Calls.{Path, bare, from_crate, other, Marked, none, token, inside, call, marked, unmarked, key_of}
 use Rattle.expander_model.specs.Definitions.{Definition, nearest}
 use Rattle.expander_model.specs.Expansion.{World, CallSite, just, followed_by, grouped, faulted, found, bursting, before_group, whole_call}
-use Rattle.expander_model.specs.declared.dialect.ScopeRules.{ScopeRules}
+use Rattle.expander_model.specs.declared.scope_rules.ScopeRules.{ScopeRules}
 use Rattle.textual_scope.specs.Limits.{Limits, Noted, definition, result, noted_world, noting, noted_list, noted, until_passed, too_large}
-use Rattle.expander_model.specs.declared.dialect.Standing.TheVariants.{Argument}
+use Rattle.expander_model.specs.declared.scope_rules.Standing.TheVariants.{Argument}
 use Rattle.expander_model.specs.Scoping.{Around, Scoped, Search, parts, definition_in, in_group, behind, only, and_next, in_brackets, is_left_out, fitted, at_level, unbroken, looked_up, at_key, at_call, search_trees, search_part, search_parts}
 use Rattle.textual_scope.proofs.ResultLemmas.{same_next}
 

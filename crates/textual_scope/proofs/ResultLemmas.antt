@@ -4,7 +4,7 @@ use Rattle.std.specs.Prelude.{ℕ, Option, ◌||◌}
 use Rattle.tt_data.specs.Forest.{Forest}
 use Rattle.expander_model.specs.Definitions.{Definition}
 use Rattle.expander_model.specs.Expansion.{World, Outcome, just, followed_by}
-use Rattle.expander_model.specs.declared.dialect.ScopeRules.{ScopeRules}
+use Rattle.expander_model.specs.declared.scope_rules.ScopeRules.{ScopeRules}
 use Rattle.expander_model.specs.Scoping.{Around, Scoped, Search, definition_in, only, and_next, behind, search_part, search_parts}
 
 or_assoc : (a b c : Bool) → ((a || b) || c) ≡ (a || (b || c))

@@ -8,10 +8,11 @@ use Rattle.expander_model.specs.declared.fault.FaultKind.{FaultKind}
 use Rattle.expander_model.specs.declared.fault.FaultKind.TheVariants.{CannotExpand, BrokenDefinition, RecursionLimit}
 use Rattle.expander_model.specs.Definitions.{Definition}
 use Rattle.expander_model.specs.Expansion.{World}
-use Rattle.expander_model.specs.Meaning.{Layers, Member, plain, defining, member_faults, members_after, output_of}
+use Rattle.expander_model.specs.Meaning.{Layers, Member, plain, defining, member_faults, output_of}
 use Rattle.expander_model.specs.Pieces.{pieces}
-use Rattle.expander_model.specs.declared.dialect.ScopeRules.{ScopeRules}
-use Rattle.expander_model.specs.declared.dialect.ScopeRules.TheVariants.{TopLevel, Rust}
+use Rattle.expander_model.specs.declared.scope_rules.ScopeRules.{ScopeRules}
+use Rattle.expander_model.specs.declared.scope_rules.ScopeRules.TheVariants.{TopLevel, Rust}
+use Rattle.textual_scope.specs.ScopedMeaning.{scoped_members}
 use Rattle.textual_scope.proofs.Lines.{words, trees, step_word}
 
 -- ---- what definitions mean here
@@ -32,19 +33,18 @@ filled argument empty = empty
 filled argument (leaf l rest) = joined (if is_punct "$" l then argument else leaf l empty) (filled argument rest)
 filled argument (group d inner rest) = group d (filled argument inner) (filled argument rest)
 
-abbrev pub toy : ScopeRules → World Definition
-toy rules = record {
+abbrev pub toy : World Definition
+toy = record {
   broken = λ d. is_broken d.body;
   fit = λ d argument. if fits_none d.body then None else Some (filled argument d.body);
   bursts = λ d argument. false;
-  dialect = record { scope = rules };
 }
 
-abbrev layers : ScopeRules → Layers
-layers rules = record { read = λ text. Ok empty; world = toy rules; spelling = λ step more. None }
+abbrev layers : Layers
+layers = record { read = λ text. Ok empty; world = toy; spelling = λ step more. None }
 
 abbrev members_of : ScopeRules → ℕ → String → List Member
-members_of rules depth line = members_after (layers rules) depth [] (pieces (trees line))
+members_of rules depth line = scoped_members rules layers depth [] (pieces (trees line))
 
 -- the words that are printed
 abbrev pub prints : ScopeRules → String → List (List ℕ)
@@ -52,7 +52,7 @@ prints rules line = map (λ s. step_word s.step) (flat_map output_of (members_of
 
 -- the faults, each at the index of a word
 abbrev pub faults : ScopeRules → String → List (FaultKind × ℕ)
-faults rules line = map (λ f. (f.kind, f.range.start)) (flat_map (member_faults (layers rules)) (members_of rules 4 line))
+faults rules line = map (λ f. (f.kind, f.range.start)) (flat_map (member_faults layers) (members_of rules 4 line))
 
 -- the names that a piece looks up outside of its lists
 abbrev looked_up_in : Member → List (List ℕ)

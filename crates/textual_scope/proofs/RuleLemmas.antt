@@ -10,13 +10,12 @@ use Rattle.expander_model.specs.Definitions.{Definition, definition_of, nearest}
 use Rattle.expander_model.specs.Expansion.{World, search_calls, expansion}
 use Rattle.expander_model.specs.Meaning.{Layers, plain, with_definition, member, members_after, meaning_of, meaning_over, meaning_in}
 use Rattle.expander_model.specs.Pieces.{pieces}
-use Rattle.expander_model.specs.declared.dialect.ScopeRules.{ScopeRules}
-use Rattle.expander_model.specs.declared.dialect.ScopeRules.TheVariants.{TopLevel, Rust}
+use Rattle.expander_model.specs.declared.scope_rules.ScopeRules.TheVariants.{TopLevel, Rust}
 use Rattle.textual_scope.specs.Keywords.{HasNoKeyword, AddsNoKeyword, NestsNone}
-use Rattle.textual_scope.specs.TopLevel.{top_level_member, top_level_members, top_level_over, top_level_meaning}
-use Rattle.expander_model.specs.declared.dialect.Standing.TheVariants.{Top}
-use Rattle.expander_model.specs.declared.dialect.Standing.{Standing}
-use Rattle.expander_model.specs.Scoping.{without_locals, Scoped, only, scoped, expanded}
+use Rattle.textual_scope.specs.ScopedMeaning.{scoped_member, scoped_members, scoped_over, scoped_meaning}
+use Rattle.expander_model.specs.declared.scope_rules.Standing.TheVariants.{Top}
+use Rattle.expander_model.specs.declared.scope_rules.Standing.{Standing}
+use Rattle.expander_model.specs.Scoping.{without_locals, Scoped, only, scoped}
 use Rattle.textual_scope.proofs.ChainLemmas.{piece_by_piece}
 use Rattle.textual_scope.proofs.KeywordLemmas.{plain_pieces, none_inside}
 use Rattle.textual_scope.proofs.MarkLemmas.{AllInside}
@@ -71,10 +70,9 @@ wordless_none world = record {
   whole = λ deeper outer f. piece_by_piece world (λ key. None) deeper outer f;
 }
 
-pub wordless_scoped : {D : Type 0} → (world : World D) (local : Definition → D) (depth : ℕ) (f : Forest) → HasNoKeyword f → (r : ScopeRules)
-    → scoped r world local (λ key. None) depth (without_locals Top None) f ≡ only (expansion world (λ key. None) depth None f)
-wordless_scoped world local depth f h TopLevel = top_level world local (λ key. None) depth Top None f
-wordless_scoped world local depth f h Rust = as_expansion Rust world local (λ key. None) HasNoKeyword (wordless_none world) depth Top None f h
+pub wordless_scoped : {D : Type 0} → (world : World D) (local : Definition → D) (depth : ℕ) (f : Forest) → HasNoKeyword f
+    → scoped Rust world local (λ key. None) depth (without_locals Top None) f ≡ only (expansion world (λ key. None) depth None f)
+wordless_scoped world local depth f h = as_expansion Rust world local (λ key. None) HasNoKeyword (wordless_none world) depth Top None f h
 
 -- what the nearest definition of a name has, if all definitions have it
 nearest_has : (P : Definition → Type 0) (before : List Definition) → All P before → (key : List ℕ) (d : Definition) → nearest before key ≡ Some d → P d
@@ -85,65 +83,45 @@ nearest_has P (x ∷ before) all key d e = go (same_text x.name.sym key) e (near
     go true h more = let is : x ≡ d = cc in subst P is (All-head P x before all)
     go false h more = more h
 
--- a piece whose dialect knows no definitions in lists
-pub expanded_top : {D : Type 0} → (world : World D) (local : Definition → D) (scope : List ℕ → Option D) → world.dialect.scope ≡ TopLevel
-    → (depth : ℕ) (f : Forest) → expanded world local scope depth f ≡ expansion world scope depth None f
-expanded_top world local scope is depth f =
-    ap (λ r. (scoped r world local scope depth (without_locals Top None) f).outcome) is
-    ∙ ap (λ (a : Scoped _). a.outcome) (top_level world local scope depth Top None f)
-
--- a piece without keywords, in any dialect
-pub expanded_plain : (world : World Definition) (local : Definition → Definition) (scope : List ℕ → Option Definition)
-    → ((key : List ℕ) (d : Definition) → scope key ≡ Some d → AddsNoKeyword world d) → (depth : ℕ) (f : Forest) → HasNoKeyword f
-    → expanded world local scope depth f ≡ expansion world scope depth None f
-expanded_plain world local scope adds depth f h = go world.dialect.scope
-  where
-    go : (r : ScopeRules) → (scoped r world local scope depth (without_locals Top None) f).outcome ≡ expansion world scope depth None f
-    go TopLevel = ap (λ (a : Scoped Definition). a.outcome) (top_level world local scope depth Top None f)
-    go Rust = ap (λ (a : Scoped Definition). a.outcome) (no_keyword_in world local scope adds depth Top None f h)
-
 module _ (layers : Layers) (depth : ℕ) where
-  -- pieces that are expanded alike
-  members_alike : (before : List Definition) (ps : List Forest)
-      → ((now : List Definition) (p : Forest) (d : Option Definition) → member layers depth now p d ≡ top_level_member layers depth now p d)
-      → members_after layers depth before ps ≡ top_level_members layers depth before ps
-  members_alike before [] same = refl
-  members_alike before (p ∷ ps) same =
-      ap (λ m. m ∷ members_after layers depth (with_definition (definition_of p) before) ps) (same before p (definition_of p))
-      ∙ ap (λ ms. top_level_member layers depth before p (definition_of p) ∷ ms) (members_alike (with_definition (definition_of p) before) ps same)
+  top_level_members : (before : List Definition) (ps : List Forest) → scoped_members TopLevel layers depth before ps ≡ members_after layers depth before ps
+  top_level_members before [] = refl
+  top_level_members before (p ∷ ps) =
+      ap (λ m. m ∷ scoped_members TopLevel layers depth (with_definition (definition_of p) before) ps) (go (definition_of p))
+      ∙ ap (λ ms. member layers depth before p (definition_of p) ∷ ms) (top_level_members (with_definition (definition_of p) before) ps)
+    where
+      go : (d : Option Definition) → scoped_member TopLevel layers depth before p d ≡ member layers depth before p d
+      go (Some d) = refl
+      go None = ap (λ (a : Scoped Definition). plain p a.outcome) (top_level layers.world (λ d. d) (nearest before) depth Top None p)
 
   abbrev Nests : Forest → Type 0
   Nests p = NestsNone layers.world p (definition_of p)
 
   same_members : (before : List Definition) (ps : List Forest) → All (AddsNoKeyword layers.world) before → All Nests ps
-      → members_after layers depth before ps ≡ top_level_members layers depth before ps
+      → scoped_members Rust layers depth before ps ≡ members_after layers depth before ps
   same_members before [] adds nests = refl
   same_members before (p ∷ ps) adds nests =
-      ap (λ m. m ∷ members_after layers depth (with_definition (definition_of p) before) ps) (here (definition_of p) (All-head Nests p ps nests))
-      ∙ ap (λ ms. top_level_member layers depth before p (definition_of p) ∷ ms)
+      ap (λ m. m ∷ scoped_members Rust layers depth (with_definition (definition_of p) before) ps) (here (definition_of p) (All-head Nests p ps nests))
+      ∙ ap (λ ms. member layers depth before p (definition_of p) ∷ ms)
       (same_members (with_definition (definition_of p) before) ps (more (definition_of p) (All-head Nests p ps nests)) (All-tail Nests p ps nests))
     where
-      here : (d : Option Definition) → NestsNone layers.world p d → member layers depth before p d ≡ top_level_member layers depth before p d
+      here : (d : Option Definition) → NestsNone layers.world p d → scoped_member Rust layers depth before p d ≡ member layers depth before p d
       here (Some d) h = refl
-      here None h = ap (plain p) (expanded_plain layers.world (λ d. d) (nearest before) (nearest_has (AddsNoKeyword layers.world) before adds) depth p h)
+      here None h = ap (λ (a : Scoped Definition). plain p a.outcome)
+          (no_keyword_in layers.world (λ d. d) (nearest before) (nearest_has (AddsNoKeyword layers.world) before adds) depth Top None p h)
 
       more : (d : Option Definition) → NestsNone layers.world p d → All (AddsNoKeyword layers.world) (with_definition d before)
       more None h = adds
       more (Some d) h = All-cons (AddsNoKeyword layers.world) d before h adds
 
-  pub as_top_level : layers.world.dialect.scope ≡ TopLevel → (initial : List Definition) (text : List ℕ)
-      → meaning_in layers depth initial text ≡ top_level_meaning layers depth initial text
-  as_top_level is initial text = go (layers.read text)
+  pub top_level_meaning : (initial : List Definition) (text : List ℕ) → scoped_meaning TopLevel layers depth initial text ≡ meaning_in layers depth initial text
+  top_level_meaning initial text = go (layers.read text)
     where
-      same : (now : List Definition) (p : Forest) (d : Option Definition) → member layers depth now p d ≡ top_level_member layers depth now p d
-      same now p (Some d) = refl
-      same now p None = ap (plain p) (expanded_top layers.world (λ d. d) (nearest now) is depth p)
-
-      go : (read : Result Forest ReadFault) → meaning_over layers depth initial read ≡ top_level_over layers depth initial read
+      go : (read : Result Forest ReadFault) → scoped_over TopLevel layers depth initial read ≡ meaning_over layers depth initial read
       go (Err fault) = refl
-      go (Ok f) = ap (λ ms. Ok (meaning_of layers ms)) (members_alike initial (pieces f) same)
+      go (Ok f) = ap (λ ms. Ok (meaning_of layers ms)) (top_level_members initial (pieces f))
 
   pub same_meaning : (initial : List Definition) (text : List ℕ) (f : Forest) → layers.read text ≡ Ok f
       → All (AddsNoKeyword layers.world) initial → All Nests (pieces f)
-      → meaning_in layers depth initial text ≡ top_level_meaning layers depth initial text
+      → scoped_meaning Rust layers depth initial text ≡ meaning_in layers depth initial text
   same_meaning initial text f e adds nests = rw e (ap (λ ms. Ok (meaning_of layers ms)) (same_members initial (pieces f) adds nests))

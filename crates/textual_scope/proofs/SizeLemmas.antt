@@ -8,9 +8,9 @@ use Rattle.expander_model.specs.Calls.{Marked, none, token, inside, call, marked
 use Rattle.expander_model.specs.Definitions.{Definition}
 use Rattle.expander_model.specs.Expansion.{World, CallSite, just, followed_by, grouped, before_group, whole_call}
 use Rattle.expander_model.specs.Pieces.{cut_from, ends_piece}
-use Rattle.expander_model.specs.declared.dialect.ScopeRules.{ScopeRules}
-use Rattle.expander_model.specs.declared.dialect.ScopeRules.TheVariants.{TopLevel, Rust}
-use Rattle.expander_model.specs.declared.dialect.Standing.TheVariants.{Argument}
+use Rattle.expander_model.specs.declared.scope_rules.ScopeRules.{ScopeRules}
+use Rattle.expander_model.specs.declared.scope_rules.ScopeRules.TheVariants.{TopLevel, Rust}
+use Rattle.expander_model.specs.declared.scope_rules.Standing.TheVariants.{Argument}
 use Rattle.expander_model.specs.Scoping.{Around, Scoped, Search, parts, definition_in, in_group, behind, only, in_brackets, at_call, search_trees, search_part, search_parts, search_list}
 use Rattle.textual_scope.proofs.MarkLemmas.{AllInside, IsBelow, inside_marked}
 use Rattle.textual_scope.proofs.ResultLemmas.{same_next}

@@ -14,10 +14,11 @@ use Rattle.bridge.specs.declared.reading.outcome.ReadFault.{ReadFault}
 use Rattle.expander_model.specs.declared.fault.Fault.{Fault}
 use Rattle.expander_model.specs.declared.fault.FaultKind.{FaultKind}
 use Rattle.expander_model.specs.declared.fault.FaultKind.TheVariants.{CannotExpand, BrokenDefinition, RecursionLimit, NestedDefinition}
-use Rattle.expander_model.specs.Meaning.{Layers, ReadMeaning, meaning_in}
+use Rattle.expander_model.specs.Meaning.{Layers, ReadMeaning}
 use Rattle.expander_model.specs.Printing.{spelling_before}
 use Rattle.expander_model.specs.World.{world}
-use Rattle.expander_model.specs.declared.dialect.ScopeRules.TheVariants.{Rust}
+use Rattle.expander_model.specs.declared.scope_rules.ScopeRules.TheVariants.{Rust}
+use Rattle.textual_scope.specs.ScopedMeaning.{scoped_meaning}
 
 -- what a row shows of a text's meaning
 data Shown : Type 0 where
@@ -34,10 +35,10 @@ lines (l ∷ ls) = l ++ (10 ∷ lines ls)
 
 -- by the small grammar, in edition 2024, with eight levels
 abbrev layers : Layers
-layers = record { read = text_reading; world = world answer Edition2024 (record { scope = Rust }); spelling = spelling_before }
+layers = record { read = text_reading; world = world answer Edition2024; spelling = spelling_before }
 
 abbrev of : List (List ℕ) → Shown
-of ls = shown (meaning_in layers 8 [] (lines ls))
+of ls = shown (scoped_meaning Rust layers 8 [] (lines ls))
 
 abbrev fault : FaultKind → ℕ → ℕ → Fault
 fault kind start end = record { kind = kind; range = record { start = start; «end» = end } }

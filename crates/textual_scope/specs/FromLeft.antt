@@ -11,7 +11,7 @@ use Rattle.expander_model.specs.PieceStates.{after_leaf, after_group}
 use Rattle.expander_model.specs.Pieces.{cut}
 use Rattle.expander_model.specs.declared.begun.Begun.{Begun}
 use Rattle.expander_model.specs.declared.begun.Begun.TheVariants.{Nothing}
-use Rattle.expander_model.specs.declared.dialect.ScopeRules.TheVariants.{Rust}
+use Rattle.expander_model.specs.declared.scope_rules.ScopeRules.TheVariants.{Rust}
 use Rattle.expander_model.specs.Scoping.{Around, Scoped, Search, and_next, search_trees, search_parts}
 
 -- a tree before those of the first piece ahead

@@ -4,7 +4,7 @@ use Rattle.std.specs.Prelude.{ℕ, zero, suc, ◌-◌, Bool, false, ◌||◌, Li
 use Rattle.tt_data.specs.Forest.{Forest, size}
 use Rattle.expander_model.specs.Definitions.{Definition}
 use Rattle.expander_model.specs.Expansion.{World, found}
-use Rattle.expander_model.specs.declared.dialect.ScopeRules.{ScopeRules}
+use Rattle.expander_model.specs.declared.scope_rules.ScopeRules.{ScopeRules}
 use Rattle.expander_model.specs.Scoping.{Around, Scoped, Search, search_list}
 
 -- at most so many calls, and so many tokens
@@ -36,7 +36,6 @@ noted_world world = record {
   broken = noted_broken world;
   fit = noted_fit world;
   bursts = noted_bursts world;
-  dialect = world.dialect;
 }
 
 -- a result is searched, and noted before what is in it

@@ -13,11 +13,11 @@ ghost use Rattle.textual_scope.specs.Conditions.{Options, definition_under, is_c
 ghost use Rattle.textual_scope.specs.Keywords.{AddsNoKeyword, HasNoKeyword, NestsNone};
 ghost use Rattle.textual_scope.specs.Limits.{Limits, noted, too_large, unnoted};
 ghost use Rattle.textual_scope.specs.ScopeChanges.{around_with, scoped_with};
-ghost use Rattle.textual_scope.specs.TopLevel.{top_level_meaning};
-ghost use Rattle.expander_model.specs.declared.dialect.Standing.{Standing};
+ghost use Rattle.textual_scope.specs.ScopedMeaning.{scoped_meaning};
+ghost use Rattle.expander_model.specs.declared.scope_rules.Standing.{Standing};
 ghost use Rattle.expander_model.specs.Scoping.{Around, Scoped, Search, and_next, only, scoped, search_list, search_parts, without_locals};
-ghost use Rattle.expander_model.specs.declared.dialect.ScopeRules.{ScopeRules};
-ghost use Rattle.expander_model.specs.declared.dialect.ScopeRules.TheVariants.{Rust, TopLevel};
+ghost use Rattle.expander_model.specs.declared.scope_rules.ScopeRules.{ScopeRules};
+ghost use Rattle.expander_model.specs.declared.scope_rules.ScopeRules.TheVariants.{Rust, TopLevel};
 
 /// Under `TopLevel` a list is expanded as without scopes, and defines nothing: `lists`. A text
 /// means what it meant: `texts`.
@@ -28,8 +28,7 @@ pub fn top_level_scope_is_as_before()
         scoped TopLevel world local scope depth (without_locals standing outer) f
         ≡ only (expansion world scope depth outer f) }
     ensures texts { (layers : Layers) (depth : ℕ) (initial : List Definition) (text : List ℕ) →
-        layers.world.dialect.scope ≡ TopLevel →
-        meaning_in layers depth initial text ≡ top_level_meaning layers depth initial text }
+        scoped_meaning TopLevel layers depth initial text ≡ meaning_in layers depth initial text }
 {}
 
 /// Trees without a definition keyword are expanded under both rules alike, and define nothing, if
@@ -47,7 +46,7 @@ pub fn without_keywords_both_rules_agree()
         (f : Forest) →
         layers.read text ≡ Ok f → All (AddsNoKeyword layers.world) initial →
         All (λ p. NestsNone layers.world p (definition_of p)) (pieces f) →
-        meaning_in layers depth initial text ≡ top_level_meaning layers depth initial text }
+        scoped_meaning Rust layers depth initial text ≡ meaning_in layers depth initial text }
 {}
 
 /// An expansion depends on what its look-ups find outside of all lists, and on nothing else there.

@@ -7,5 +7,5 @@ use Rattle.expander_scope.proofs.macro_def.anchored_tree.Goals as goal
 
 pub returns-clause-tree : goal.returns-clause-tree
 returns-clause-tree c =
-    ap (λ (t : Top). t.inner) (c.in_ok-change_every_ast_id.ensures.by_rule (λ a. anchor_by c.args.number a) (always_returns_same _ _ _ (λ a r f called. ?)))
+    ap (λ (t : Top). t.inner) (c.in_ok-change_every_ast_id.ensures.by_rule (λ a. anchor_by c.args.number a) (always_returns_same _ _ _ (λ a r f called. search rules)))
     ∙ ap (λ (t : Top). map_spans (anchored c.args.number) t.inner) c.in_ok-copy.ensures.ok

@@ -1,4 +1,4 @@
-//! By which rules a text is expanded.
+//! Which definitions a name can find, and where lists of trees are.
 
 /// Which definitions a name can find.
 #[derive(Clone, Copy, Debug, PartialEq, Eq)]
@@ -7,13 +7,6 @@ pub enum ScopeRules {
     TopLevel,
     /// Those of the lists around the call, by Rust's textual scope, and then those.
     Rust,
-}
-
-/// By which rules a text is expanded.
-#[derive(Clone, Copy, Debug, PartialEq, Eq)]
-pub struct Dialect {
-    /// Which definitions a name can find.
-    pub scope: ScopeRules,
 }
 
 /// Where a list of trees is.
