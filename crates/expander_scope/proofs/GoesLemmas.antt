@@ -1,6 +1,6 @@
 -- How a search of lists goes on, event by event and turn by turn.
 use Rattle.std.proofs.Common.{◌≡◌, ℕ, zero, suc, ◌<◌, ◌+◌, ◌*◌, List, [], ◌∷◌, ◌++◌, refl, sym, ap, subst, ◌∙◌, append_assoc, append-nil, arith, Bool, true, false, if◌then◌else◌}
-use Rattle.std.specs.Prelude.{map, length, reverse, Option, Some, None, Ok, Err, unwrap_or, ◌-◌}
+use Rattle.std.specs.Prelude.{map, length, reverse, Option, Some, None, Ok, Err, OnOk, Result, is_some, unwrap_or, ◌-◌}
 use Rattle.std.proofs.lemmas.List.{reverse-append}
 use Rattle.tt_data.specs.Forest.{Forest, empty, leaf, group, joined, size}
 use Rattle.tt_data.proofs.ForestLemmas.{size-joined}
@@ -45,11 +45,11 @@ use Rattle.expander_scope.specs.declared.list_walk.Level.{Level}
 use Rattle.expander_scope.specs.declared.list_walk.ListWalk.{ListWalk}
 use Rattle.expander_scope.specs.declared.locals.Locals.{Locals}
 use Rattle.expander_scope.proofs.CallLemmas.{no_call}
-use Rattle.expander_scope.proofs.CallResultLemmas.{adds_just, adds_looks, adds_more, adds_stays, answer_bursts, behind_call, comes_left, deeper, looks, result_bursts, site_of, stays_left, unknown_left}
+use Rattle.expander_scope.proofs.CallResultLemmas.{colons_left, adds_just, adds_looks, adds_more, adds_stays, answer_bursts, behind_call, comes_left, deeper, looks, result_bursts, site_of, stays_left, unknown_left}
 use Rattle.expander_scope.proofs.ListLemmas.{entered_in, here_in, left_at_beginning, left_at_end, left_group, left_leaf, opened, passed_in, then_assoc}
 use Rattle.expander_scope.proofs.OutcomeLemmas.{or_later}
 use Rattle.expander_scope.proofs.SinkLemmas.{takes_none}
-use Rattle.expander_scope.proofs.TurnLemmas.{IsCall, call_is_call, neither, rest_smaller}
+use Rattle.expander_scope.proofs.TurnLemmas.{IsCall, call_is_call, colons_is_call, neither, rest_smaller}
 use Rattle.textual_scope.proofs.LeftLemmas.{at_definition}
 use Rattle.textual_scope.proofs.ResultLemmas.{followed_by_nothing}
 
@@ -59,8 +59,8 @@ in_group_is d Enclosed = refl
 in_group_is d Argument = refl
 
 pub entered : (b : Bool) → (b ≡ false → ⊥) → b ≡ true
-entered true no = refl
-entered false no = absurd (no refl)
+entered true never = refl
+entered false never = absurd (never refl)
 
 pub never_at_end : (f : Forest) → BeginsWithGroup f → f ≡ empty → ⊥
 never_at_end f begins is = let both : empty ≡ group begins.0 begins.1 begins.2 = sym is ∙ begins.3 in cc both
@@ -366,10 +366,10 @@ module _ (rules : ScopeRules) (world : World Numbered) (scope : List ℕ → Opt
     module _ (old mid : Search S) (w : ListWalk) (p : Place) (at : IsAt w old.locals p) (plain : IsPlainAhead rules p) (c : Call) (e : call_at w.trees.here ≡ Some c)
         (same_locals : mid.locals ≡ old.locals) (same_output : mid.out.output ≡ old.out.output) (same_faults : mid.out.faults ≡ old.out.faults)
         (finds : map find_of mid.out.finds.items ≡ map find_of old.out.finds.items ++ lookups_of scope (locals_of old.locals) w.trees.here c) where
-      call_is : IsCall p.here c true
+      abbrev pub call_is : IsCall p.here c true
       call_is = call_is_call p.here c (ap call_at (sym at.here) ∙ e)
 
-      xs : List (List ℕ × Option Numbered)
+      abbrev pub xs : List (List ℕ × Option Numbered)
       xs = lookups_of scope p.locals p.here c
 
       resolved_is : (x : Option Numbered) → x ≡ resolved scope (locals_of old.locals) w.trees.here c → resolved scope p.locals p.here c ≡ x
@@ -384,7 +384,7 @@ module _ (rules : ScopeRules) (world : World Numbered) (scope : List ℕ → Opt
       at_mid = subst (λ l. IsAt w l p) (sym same_locals) at
 
       -- what is passed before its group
-      pub opens_before : Forest
+      abbrev pub opens_before : Forest
       opens_before = before_group call_is.path c.name call_is.bang
 
       pub opened_so : p.here ≡ joined opens_before c.from_group
@@ -394,12 +394,13 @@ module _ (rules : ScopeRules) (world : World Numbered) (scope : List ℕ → Opt
       group_begins = (call_is.brackets, c.argument, c.rest, call_is.group_is)
 
       -- it finds nothing
-      pub goes_unknown : (new : Search S) (after : ListWalk) → None ≡ resolved scope (locals_of old.locals) w.trees.here c
-          → Goes rules world scope depth outer edition Has (kept_left rules world scope depth outer opens_before c.from_group p) mid new w after
+      pub goes_unknown : (new : Search S) (after : ListWalk) → None ≡ resolved scope (locals_of old.locals) w.trees.here c → mid.rules ≡ rules
+          → Goes mid.rules world scope depth outer edition Has (kept_left mid.rules world scope depth outer opens_before c.from_group p) mid new w after
           → Goes rules world scope depth outer edition Has (whole_left p) old new w after
-      goes_unknown new after nothing g =
+      goes_unknown new after nothing same g =
           goes_looked xs (whole_left p) (kept_left rules world scope depth outer opens_before c.from_group p) old mid new w after
-          (unknown_left rules world scope depth outer p plain c call_is (resolved_is None nothing)) (looked_first new) same_locals g
+          (unknown_left rules world scope depth outer p plain c call_is (resolved_is None nothing)) (looked_first new) same_locals
+          (subst (λ r. Goes r world scope depth outer edition Has (kept_left r world scope depth outer opens_before c.from_group p) mid new w after) same g)
 
       -- the place behind it
       abbrev behind_it : List Definition → Place
@@ -450,19 +451,22 @@ module _ (rules : ScopeRules) (world : World Numbered) (scope : List ℕ → Opt
           bursts_too o t one two a = record { steps = a.steps; faults = a.faults; finds = a.finds }
 
       -- its result is searched, in the surroundings of the call
-      abbrev pub result_of : Forest → Scoped Numbered
-      result_of g = searched rules world scope (depth - 1) (record { standing = w.standing; outer = Some (unwrap_or outer c.name.span); locals = locals_of mid.locals }) g
+      abbrev pub result_of : ScopeRules → Forest → Scoped Numbered
+      result_of r g = searched r world scope (depth - 1) (record { standing = w.standing; outer = Some (unwrap_or outer c.name.span); locals = locals_of mid.locals }) g
 
-      result_is : (d : Numbered) (g : Forest) → result_of g ≡ deeper rules world scope rules d (here_in rules world scope depth outer p.standing p.locals) (site_of rules world scope depth p.here c true call_is) depth g
+      result_is : (d : Numbered) (g : Forest) → result_of rules g ≡ deeper rules world scope rules d (here_in rules world scope depth outer p.standing p.locals) (site_of rules world scope depth p.here c true call_is) depth g
       result_is d g = λ i. searched rules world scope (depth - 1)
           (record { standing = at.standing i; outer = Some (unwrap_or outer c.name.span); locals = (ap locals_of same_locals ∙ at.locals) i }) g
 
       pub goes_comes : (new : Search S) (after : ListWalk) (d : Numbered) → Some d ≡ resolved scope (locals_of old.locals) w.trees.here c
-          → (g : Forest) → answer world d depth c.argument ≡ Ok g → Adds Has mid.out new.out (result_of g).outcome
-          → locals_of new.locals ≡ (result_of g).defines ++ locals_of mid.locals → AreReadIn edition new.locals → IsBehind after
+          → (g : Forest) → answer world d depth c.argument ≡ Ok g → mid.rules ≡ rules
+          → Adds Has mid.out new.out (result_of mid.rules g).outcome
+          → locals_of new.locals ≡ (result_of mid.rules g).defines ++ locals_of mid.locals → AreReadIn edition new.locals → IsBehind after
           → Goes rules world scope depth outer edition Has (whole_left p) old new w after
-      goes_comes new after d found g says adds locals read b =
-          let a : Scoped Numbered = result_of g in
+      goes_comes new after d found g says same added made read b =
+          let a : Scoped Numbered = result_of rules g in
+          let adds : Adds Has mid.out new.out a.outcome = subst (λ r. Adds Has mid.out new.out (result_of r g).outcome) same added in
+          let locals : locals_of new.locals ≡ a.defines ++ locals_of mid.locals = made ∙ ap (λ r. (result_of r g).defines ++ locals_of mid.locals) same in
           let t : Bool = world.bursts d c.argument in
           let is = comes_left rules world scope depth outer p plain c call_is d (resolved_is (Some d) found) g says in record {
             next = behind_it a.defines;
@@ -479,10 +483,38 @@ module _ (rules : ScopeRules) (world : World Numbered) (scope : List ℕ → Opt
       answer_too_many d found much = answer_bursts rules world scope depth outer p plain c call_is d (resolved_is (Some d) found) much
 
       pub result_too_many : (d : Numbered) → Some d ≡ resolved scope (locals_of old.locals) w.trees.here c → (g : Forest) → answer world d depth c.argument ≡ Ok g
-          → (result_of g).outcome.bursts ≡ true → (whole_left p).0.bursts ≡ true
-      result_too_many d found g says much =
+          → mid.rules ≡ rules → (result_of mid.rules g).outcome.bursts ≡ true → (whole_left p).0.bursts ≡ true
+      result_too_many d found g says same much =
           result_bursts rules world scope depth outer p plain c call_is d (resolved_is (Some d) found) g says
-          (ap (λ (x : Scoped Numbered). x.outcome.bursts) (sym (result_is d g)) ∙ much)
+          (ap (λ (x : Scoped Numbered). x.outcome.bursts) (sym (result_is d g)) ∙ ap (λ r. (result_of r g).outcome.bursts) (sym same) ∙ much)
+
+    -- ---- what would be a call but for the `::` before it
+
+    module _ (old new : Search S) (w after : ListWalk) (p : Place) (at : IsAt w old.locals p) (plain : IsPlainAhead rules p) (c : Call) (e : call_behind_colons w.trees.here ≡ Some c) where
+      abbrev colons_is : IsCall p.here c false
+      colons_is = colons_is_call p.here c (ap call_behind_colons (sym at.here) ∙ e)
+
+      abbrev pub colons_before : Forest
+      colons_before = before_group colons_is.path c.name colons_is.bang
+
+      pub colons_open : p.here ≡ joined colons_before c.from_group
+      colons_open = colons_is.opening
+
+      pub colons_group : BeginsWithGroup c.from_group
+      colons_group = (colons_is.brackets, c.argument, c.rest, colons_is.group_is)
+
+      pub goes_colons : old.rules ≡ rules → Goes old.rules world scope depth outer edition Has (kept_left old.rules world scope depth outer colons_before c.from_group p) old new w after
+          → Goes rules world scope depth outer edition Has (whole_left p) old new w after
+      goes_colons same g =
+          let t = subst (λ r. Goes r world scope depth outer edition Has (kept_left r world scope depth outer colons_before c.from_group p) old new w after) same g in record {
+            next = t.next;
+            at = t.at;
+            outcome = t.outcome;
+            is = colons_left rules world scope depth outer p plain c colons_is ∙ t.is;
+            adds = t.adds;
+            read = t.read;
+            less = t.less;
+          }
 
     -- ---- turn by turn
 
@@ -519,6 +551,13 @@ module _ (rules : ScopeRules) (world : World Numbered) (scope : List ℕ → Opt
       read = t.read g.read;
     }
 
+    -- a turn by the rules of the search
+    pub going_turn : (whole : Left) (first old new : Search S) (before after : ListWalk) (g : Going whole first old before) → old.rules ≡ rules
+        → Goes old.rules world scope depth outer edition Has (all_left old.rules world scope depth outer g.place) old new before after → Going whole first new after
+    going_turn whole first old new before after g same t =
+        going_on whole first old new before after g
+        (subst (λ r. Goes r world scope depth outer edition Has (all_left r world scope depth outer g.place) old new before after) same t)
+
     -- nothing is left
     pub going_done : (a : Scoped Numbered) (locals : List Definition) (first now : Search S) (w : ListWalk) (g : Going (a.outcome, a.defines ++ locals) first now w)
         → g.place.here ≡ empty → g.place.groups ≡ [] → Adds Has first.out now.out a.outcome × (locals_of now.locals ≡ a.defines ++ locals)
@@ -530,3 +569,19 @@ module _ (rules : ScopeRules) (world : World Numbered) (scope : List ℕ → Opt
     -- what makes too many tokens in what is left does so in the whole
     pub going_bursts : (whole : Left) (first now : Search S) (w : ListWalk) (g : Going whole first now w) → (whole_left g.place).0.bursts ≡ true → whole.0.bursts ≡ true
     going_bursts whole first now w g much = ap (λ (l : Left). l.0.bursts) g.is ∙ or_later g.done.bursts _ much
+
+-- three facts of one good result
+pub ok_three : {T E A B C D : Type 0} (r : Result T E) → OnOk r A → OnOk r B → OnOk r C → (A → B → C → D) → OnOk r D
+ok_three (Ok x) a b c f = f a b c
+ok_three (Err e) a b c f = tt
+
+pub some_from : {X : Type 0} (o : Option X) → is_some o ≡ true → (x : X) × (o ≡ Some x)
+some_from None e = absurd (cc e)
+some_from (Some x) e = (x, refl)
+
+-- no definition begins where none begins in the traversal
+pub plain_at : (w : ListWalk) (l : Locals) (p : Place) → IsAt w l p → (r : ScopeRules) → (r ≡ Rust → w.begun ≡ Nothing → IsAhead w.trees.here None) → IsPlainAhead r p
+plain_at w l p at r nowhere = λ u v. subst (λ f. IsAhead f None) at.here (nowhere u (at.begun ∙ v))
+
+pub no_call_at : (w : ListWalk) (l : Locals) (p : Place) → IsAt w l p → call_at w.trees.here ≡ None → call_behind_colons w.trees.here ≡ None → IsNoCall p
+no_call_at w l p at a b = (ap call_at (sym at.here) ∙ a, ap call_behind_colons (sym at.here) ∙ b)

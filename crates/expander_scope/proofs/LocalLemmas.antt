@@ -107,8 +107,12 @@ cut_definitions old new front back split are =
 
 -- ---- the definition of a list that was made
 
+of_some : (o : Option Definition) (d other : Definition) → o ≡ Some d → unwrap_or o other ≡ d
+of_some None d other e = absurd (cc e)
+of_some (Some x) d other e = let is : x ≡ d = cc e in is
+
 pub known_as : (k : MacroDef) (piece : Forest) (d : Definition) → k.number ≡ 0 → k.tree.inner ≡ piece → definition_of piece ≡ Some d → numbered_of_known k ≡ unnumbered d
 known_as k piece d number tree is = λ i. record {
   number = number i;
-  definition = (ap definition_in tree ∙ ap (λ o. unwrap_or o _) is) i;
+  definition = (ap definition_in tree ∙ of_some (definition_of piece) d _ is) i;
 }
