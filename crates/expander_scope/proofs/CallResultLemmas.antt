@@ -1,21 +1,18 @@
 -- What a call adds to the output of a search.
-use Rattle.std.proofs.Common.{◌≡◌, ℕ, ◌-◌, ◌<◌, ◌*◌, ◌+◌, zero, suc, List, [], ◌∷◌, ◌++◌, refl, sym, ap, subst, ◌∙◌, append_assoc, append-nil, arith, Bool, true, false, if◌then◌else◌}
+use Rattle.std.proofs.Common.{◌≡◌, ℕ, ◌-◌, ◌<◌, zero, suc, List, [], ◌∷◌, ◌++◌, refl, sym, ap, subst, ◌∙◌, append_assoc, append-nil, arith, Bool, true, false, if◌then◌else◌}
 use Rattle.std.specs.Prelude.{map, Option, Some, None, unwrap_or, option_map, is_some, Ok, Err, not, ◌&&◌}
-use Rattle.tt_data.specs.Forest.{Forest, joined}
+use Rattle.tt_data.specs.Forest.{Forest}
 use Rattle.tt_data.specs.Walk.{Step, walk}
-use Rattle.tt_data.specs.declared.delimiter.Delimiter.{Delimiter}
 use Rattle.tt_data.specs.declared.leaf.Ident.{Ident}
-use Rattle.tt_data.specs.declared.leaf.Punct.{Punct}
 use Rattle.tt_data.specs.declared.span.Span.{Span}
 use Rattle.bridge.specs.Text.{is_visible}
-use Rattle.small_grammar.specs.Text.{same_text}
-use Rattle.expander_model.specs.CallSteps.{call_at, call_behind_colons, key_at}
-use Rattle.expander_model.specs.Calls.{Path, bare, from_crate, other, key_of, is_bang_group}
+use Rattle.expander_model.specs.CallSteps.{key_at}
+use Rattle.expander_model.specs.Calls.{Path, bare, from_crate, other, key_of}
 use Rattle.expander_model.specs.Definitions.{Definition, nearest, or_else}
-use Rattle.expander_model.specs.Expansion.{World, Outcome, CallSite, PlacedStep, expansion, faulted, placed, just, followed_by, grouped, bursting, stays, before_group, whole_call}
+use Rattle.expander_model.specs.Expansion.{World, Outcome, CallSite, PlacedStep, expansion, faulted, placed, just, followed_by, bursting, stays, before_group, whole_call}
 use Rattle.expander_model.specs.Held.{Numbered, unnumbered}
 use Rattle.expander_model.specs.PieceStates.{after_group}
-use Rattle.expander_model.specs.Scoping.{Around, Scoped, Search, and_next, at_call, at_key, fitted, in_brackets, kept_call, looked_up, only, scoped, unbroken, without_locals}
+use Rattle.expander_model.specs.Scoping.{Around, Scoped, at_call, at_key, fitted, in_brackets, kept_call, looked_up, only, scoped, unbroken, without_locals}
 use Rattle.expander_model.specs.declared.begun.Begun.TheVariants.{Other}
 use Rattle.expander_model.specs.declared.call.Call.{Call}
 use Rattle.expander_model.specs.declared.scope_rules.ScopeRules.{ScopeRules}
@@ -31,9 +28,9 @@ use Rattle.expander_scope.specs.Turns.{begun_behind, broken_at, is_bare, kept_le
 use Rattle.expander_scope.specs.declared.expand.Expanding.{Expanding}
 use Rattle.expander_scope.proofs.ListLemmas.{IsPlain, called_in, here_in, left_call, passed_in, scoped_is, then_assoc}
 use Rattle.expander_scope.proofs.OutcomeLemmas.{or_first, or_later}
-use Rattle.expander_scope.proofs.SinkLemmas.{takes_both, takes_none}
+use Rattle.expander_scope.proofs.SinkLemmas.{takes_both}
 use Rattle.textual_scope.proofs.RuleLemmas.{top_level}
-use Rattle.expander_scope.proofs.TurnLemmas.{IsCall, call_is_call, colons_is_call, is_open, names_alone, joined_call, visible_call}
+use Rattle.expander_scope.proofs.TurnLemmas.{IsCall, is_open, names_alone, joined_call, visible_call}
 
 -- look-ups alone
 abbrev pub looks : List (List ℕ × Option Numbered) → Outcome Numbered
@@ -116,9 +113,11 @@ module _ (rules : ScopeRules) (world : World Numbered) (scope : List ℕ → Opt
   stays_at false zero given kind fits e = let is : RecursionLimit ≡ kind = cc in (false, ap (λ k. only (stays k around.outer site)) is)
   stays_at false (suc n) None kind fits e =
       let is : CannotExpand ≡ kind = cc in
-      let b : Bool = world.bursts d site.argument in
-      (b, ap (λ o. bursting_too b (fitted r world unnumbered scope (scoped rules world unnumbered scope n) around site o)) fits
-      ∙ ap (λ k. only (bursting b (stays k around.outer site))) is)
+      let b : Bool = world.bursts d site.argument in (
+        b,
+        ap (λ o. bursting_too b (fitted r world unnumbered scope (scoped rules world unnumbered scope n) around site o)) fits
+            ∙ ap (λ k. only (bursting b (stays k around.outer site))) is,
+      )
   stays_at false (suc n) (Some g) kind fits e = absurd (cc e)
 
   pub stays_is : (depth : ℕ) (kind : FaultKind) → answer world d depth site.argument ≡ Err kind
@@ -206,8 +205,8 @@ module _ (rules : ScopeRules) (world : World Numbered) (scope : List ℕ → Opt
       let site : CallSite = site_of f c true k in
       let kept : Scoped Numbered = kept_of r around f c true k in
       let at : Bool → List ℕ → Scoped Numbered = λ b key. (
-        let o : Option Definition = if b then nearest around.locals c.name.sym else None in
-        noted r around site kept (if is_some o then [] else (key, scope key) ∷ []) (looked r around site kept (or_else (option_map unnumbered o) (scope key)))) in
+      let o : Option Definition = if b then nearest around.locals c.name.sym else None in
+      noted r around site kept (if is_some o then [] else (key, scope key) ∷ []) (looked r around site kept (or_else (option_map unnumbered o) (scope key)))) in
       by_path r around site kept k.path c.name k.is_so
       ∙ ap (λ b. at b (key_of k.path c.name)) (sym k.alone)
       ∙ ap (at (is_bare f)) (k.key refl)
@@ -216,7 +215,6 @@ module _ (rules : ScopeRules) (world : World Numbered) (scope : List ℕ → Opt
   behind_is f c b k = ap begun_behind k.group_is
 
   module _ (outer : Option Span) (p : Place) (plain : IsPlain rules world scope depth rules p.begun p.here) where
-
     abbrev around : Around
     around = here_in rules world scope depth outer p.standing p.locals
 

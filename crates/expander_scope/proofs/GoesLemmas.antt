@@ -1,5 +1,5 @@
 -- How a search of lists goes on, event by event and turn by turn.
-use Rattle.std.proofs.Common.{◌≡◌, ℕ, zero, suc, ◌<◌, ◌+◌, ◌*◌, List, [], ◌∷◌, ◌++◌, refl, sym, ap, subst, ◌∙◌, append_assoc, append-nil, arith, Bool, true, false, if◌then◌else◌}
+use Rattle.std.proofs.Common.{◌≡◌, ℕ, suc, ◌<◌, ◌+◌, ◌*◌, List, [], ◌∷◌, ◌++◌, refl, sym, ap, subst, ◌∙◌, append_assoc, arith, Bool, true, false, if◌then◌else◌}
 use Rattle.std.specs.Prelude.{map, length, reverse, Option, Some, None, Ok, Err, OnOk, Result, is_some, unwrap_or, ◌-◌}
 use Rattle.std.proofs.lemmas.List.{reverse-append}
 use Rattle.tt_data.specs.Forest.{Forest, empty, leaf, group, joined, size}
@@ -12,12 +12,10 @@ use Rattle.tt_data.specs.declared.leaf.Leaf.{Leaf}
 use Rattle.tt_data.specs.declared.span.Span.{Span}
 use Rattle.bridge.specs.Text.{is_visible}
 use Rattle.expander_model.specs.CallSteps.{bare_call, call_at, call_behind_colons, crate_call}
-use Rattle.expander_model.specs.Calls.{mark_leaf, marked, token}
 use Rattle.expander_model.specs.Definitions.{Definition, definition_of}
 use Rattle.expander_model.specs.Expansion.{World, Outcome, CallSite, PlacedStep, before_group, bursting, just, followed_by, stays}
 use Rattle.expander_model.specs.Held.{Numbered, unnumbered}
 use Rattle.expander_model.specs.PieceStates.{after_leaf, after_group}
-use Rattle.expander_model.specs.Pieces.{cut}
 use Rattle.expander_model.specs.Scoping.{Around as Surroundings, Scoped, and_next, defined, in_brackets, in_group, only}
 use Rattle.expander_model.specs.WalkSteps.{Enters, GoesOn, groups_of}
 use Rattle.expander_model.specs.declared.tree_walk.TreeWalk.{TreeWalk}
@@ -83,7 +81,6 @@ nested_out k locals g gs h = go (is_visible k)
     go false = subst (λ ls. AreNested ls gs) (sym h.0.1) (nested_more h.0.0 g.locals gs h.1)
 
 module _ (rules : ScopeRules) (world : World Numbered) (scope : List ℕ → Option Numbered) (depth : ℕ) (outer : Option Span) where
-
   abbrev whole_left : Place → Left
   whole_left p = all_left rules world scope depth outer p
 
@@ -571,9 +568,9 @@ module _ (rules : ScopeRules) (world : World Numbered) (scope : List ℕ → Opt
     going_bursts whole first now w g much = ap (λ (l : Left). l.0.bursts) g.is ∙ or_later g.done.bursts _ much
 
 -- three facts of one good result
-pub ok_three : {T E A B C D : Type 0} (r : Result T E) → OnOk r A → OnOk r B → OnOk r C → (A → B → C → D) → OnOk r D
-ok_three (Ok x) a b c f = f a b c
-ok_three (Err e) a b c f = tt
+pub ok_three : {T E A B C D : Type 0} (r : Result T E) → (A → B → C → D) → OnOk r A → OnOk r B → OnOk r C → OnOk r D
+ok_three (Ok x) f a b c = f a b c
+ok_three (Err e) f a b c = tt
 
 pub some_from : {X : Type 0} (o : Option X) → is_some o ≡ true → (x : X) × (o ≡ Some x)
 some_from None e = absurd (cc e)

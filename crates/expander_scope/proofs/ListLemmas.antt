@@ -1,35 +1,31 @@
 -- What is left to search of a list goes on tree by tree.
-use Rattle.std.proofs.Common.{◌≡◌, ◌≢◌, ℕ, zero, suc, ◌<◌, List, [], ◌∷◌, ◌++◌, refl, sym, ap, ◌∙◌, append_assoc, append-nil, arith, Bool, true, false, cond, if◌then◌else◌}
-use Rattle.std.specs.Prelude.{Option, Some, None, Ok, Err, option_map, unwrap_or, is_some, not, ◌&&◌}
-use Rattle.std.proofs.lemmas.Bool.{and_parts}
+use Rattle.std.proofs.Common.{◌≡◌, ◌≢◌, ℕ, zero, suc, List, [], ◌∷◌, ◌++◌, refl, sym, ap, ◌∙◌, append_assoc, append-nil, arith, Bool, true, false, if◌then◌else◌}
+use Rattle.std.specs.Prelude.{Option, None}
 use Rattle.tt_data.specs.Forest.{Forest, empty, leaf, group, size}
-use Rattle.tt_data.specs.Walk.{at_leaf, closes, opens, walk}
+use Rattle.tt_data.specs.Walk.{at_leaf, closes, opens}
 use Rattle.tt_data.specs.declared.delimiter.Delimiter.{Delimiter}
-use Rattle.tt_data.specs.declared.delimiter.DelimiterKind.{DelimiterKind}
 use Rattle.tt_data.specs.declared.leaf.Ident.{Ident}
 use Rattle.tt_data.specs.declared.leaf.Leaf.{Leaf}
 use Rattle.tt_data.specs.declared.leaf.Punct.{Punct}
 use Rattle.tt_data.specs.declared.span.Span.{Span}
-use Rattle.bridge.specs.Text.{is_char, is_visible}
-use Rattle.expander_model.specs.Calls.{Path, bare, from_crate, other, is_bang_group, mark_leaf, marked, token, unmarked}
-use Rattle.expander_model.specs.Definitions.{Definition, definition_of}
-use Rattle.expander_model.specs.Expansion.{World, Outcome, CallSite, just, followed_by, grouped, before_group, whole_call}
+use Rattle.bridge.specs.Text.{is_visible}
+use Rattle.expander_model.specs.Calls.{Path, bare, from_crate, other, mark_leaf, marked, token}
+use Rattle.expander_model.specs.Definitions.{Definition}
+use Rattle.expander_model.specs.Expansion.{World, Outcome, just, followed_by, grouped, whole_call}
 use Rattle.expander_model.specs.Held.{Numbered, unnumbered}
 use Rattle.expander_model.specs.PieceStates.{after_leaf, after_group}
-use Rattle.expander_model.specs.Pieces.{cut}
-use Rattle.expander_model.specs.Scoping.{Around, Scoped, Search, parts, definition_in, in_group, behind, only, and_next, in_brackets, defined, at_call, kept_call, search_trees, search_parts, search_list, scoped}
+use Rattle.expander_model.specs.Scoping.{Around, Scoped, Search, parts, in_group, only, and_next, in_brackets, at_call, kept_call, search_trees, search_parts, search_list, scoped}
 use Rattle.expander_model.specs.declared.begun.Begun.{Begun}
 use Rattle.expander_model.specs.declared.begun.Begun.TheVariants.{Nothing, Pound, PoundBang, Other}
 use Rattle.expander_model.specs.declared.scope_rules.ScopeRules.{ScopeRules}
 use Rattle.expander_model.specs.declared.scope_rules.ScopeRules.TheVariants.{TopLevel, Rust}
 use Rattle.expander_model.specs.declared.scope_rules.Standing.{Standing}
-use Rattle.expander_model.specs.declared.scope_rules.Standing.TheVariants.{Top, Enclosed, Argument}
 use Rattle.expander_scope.specs.Expanding.{deeper_at, searched}
-use Rattle.expander_scope.specs.ListsLeft.{IsAhead, Left, Open, Place, list_left, in_list, groups_left, all_left, then_left, let_out, standing_in}
-use Rattle.textual_scope.specs.FromLeft.{AreOfCall, is_begun, trees_left, left_after}
-use Rattle.textual_scope.proofs.LeftLemmas.{call_before, at_definition, at_piece, at_token, at_group, at_a_call, left_nothing, marked-call}
+use Rattle.expander_scope.specs.ListsLeft.{IsAhead, Left, Open, list_left, in_list, groups_left, all_left, then_left, let_out}
+use Rattle.textual_scope.specs.FromLeft.{AreOfCall, trees_left}
+use Rattle.textual_scope.proofs.LeftLemmas.{call_before, at_piece, at_token, at_group, at_a_call, left_nothing, marked-call}
 use Rattle.textual_scope.proofs.MarkLemmas.{unmarked-marked}
-use Rattle.textual_scope.proofs.ResultLemmas.{and_nothing, followed_assoc, followed_by_nothing, scoped_same}
+use Rattle.textual_scope.proofs.ResultLemmas.{and_nothing, followed_assoc, followed_by_nothing}
 use Rattle.textual_scope.proofs.SizeLemmas.{enough, same_parts, within_parts}
 use Rattle.expander_scope.proofs.OutcomeLemmas.{or_false, outcome_eq}
 
@@ -127,7 +123,6 @@ pub then_assoc : (a b : Outcome Numbered) (l : Left) → then_left (followed_by 
 then_assoc a b l = λ i. (followed_assoc a b l.0 i, l.1)
 
 module _ (rules : ScopeRules) (world : World Numbered) (scope : List ℕ → Option Numbered) (depth : ℕ) (outer : Option Span) where
-
   abbrev pub here_in : Standing → List Definition → Around
   here_in standing locals = record { standing = standing; outer = outer; locals = locals }
 

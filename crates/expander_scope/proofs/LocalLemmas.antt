@@ -81,11 +81,11 @@ le_or (suc a) (suc b) = elim (le_or a b) [ inl h ↦ inl (omega (arith, h)) | in
 pub cut_has : {X : Type 0} (P : X → Type 0) (old new : List X) (n : ℕ) → ((front back : List X) → old ≡ front ++ back → length back ≡ n → new ≡ back)
     → (length old ≤ n → new ≡ old) → All P old → All P new
 cut_has P old new n split short all = elim (le_or (length old) n) [
-      inl less ↦ subst (All P) (sym (short less)) all
-    | inr more ↦ subst (All P)
+  | inl less ↦ subst (All P) (sym (short less)) all
+  | inr more ↦ subst (All P)
       (sym (split (take (length old - n) old) (drop (length old - n) old) (sym (take-append-drop (length old - n) old)) (length-drop (length old - n) old ∙ omega (arith, more))))
       (All-drop P (length old - n) old all)
-    ]
+]
 
 drop_mapped : {X Y : Type 0} (f : X → Y) (n : ℕ) (xs : List X) → map f (drop n xs) ≡ drop n (map f xs)
 drop_mapped f zero xs = refl

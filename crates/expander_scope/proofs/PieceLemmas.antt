@@ -1,16 +1,15 @@
 -- Which pieces can be definitions, by their first trees.
-use Rattle.std.proofs.Common.{◌≡◌, ◌≢◌, ◌⊎◌, inl, inr, ℕ, List, [], ◌∷◌, refl, sym, ap, subst, ◌∙◌, Bool, true, false, if◌then◌else◌}
-use Rattle.std.specs.Prelude.{◌&&◌, ◌||◌, Option, Some, None, codes, unwrap_or, is_some}
+use Rattle.std.proofs.Common.{◌≡◌, ◌≢◌, List, ◌∷◌, refl, sym, ap, ◌∙◌, Bool, true, false, if◌then◌else◌}
+use Rattle.std.specs.Prelude.{◌&&◌, ◌||◌, Option, None, codes, unwrap_or}
 use Rattle.tt_data.specs.Forest.{Forest, empty, leaf, group, joined}
 use Rattle.tt_data.specs.declared.delimiter.Delimiter.{Delimiter}
 use Rattle.tt_data.specs.declared.delimiter.DelimiterKind.TheVariants.{Bracket}
 use Rattle.tt_data.specs.declared.leaf.Ident.{Ident}
-use Rattle.tt_data.specs.declared.leaf.Leaf.{Leaf}
 use Rattle.tt_data.specs.declared.leaf.Leaf.TheVariants as as_leaf
 use Rattle.tt_data.specs.declared.leaf.Punct.{Punct}
 use Rattle.bridge.specs.Text.{is_char, same_kind}
-use Rattle.small_grammar.specs.Text.{has_text, ◌>>=◌, ◌>>◌}
-use Rattle.expander_model.specs.Definitions.{Definition, after_attributes, after_pub, after_word, definition_of, macro_of, macro_rules_of, or_else}
+use Rattle.small_grammar.specs.Text.{has_text}
+use Rattle.expander_model.specs.Definitions.{Definition, after_attributes, after_pub, definition_of, macro_of, macro_rules_of, or_else}
 use Rattle.expander_model.specs.Pieces.{cut}
 use Rattle.expander_model.specs.declared.begun.Begun.TheVariants.{Nothing}
 use Rattle.expander_scope.specs.ListsLeft.{can_begin}

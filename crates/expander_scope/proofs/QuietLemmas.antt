@@ -1,5 +1,5 @@
 -- Trees without calls and definition keywords stay as they are.
-use Rattle.std.proofs.Common.{◌≡◌, ℕ, zero, suc, subst, List, [], ◌∷◌, ◌++◌, refl, sym, ap, ◌∙◌, Bool, true, false}
+use Rattle.std.proofs.Common.{◌≡◌, ℕ, zero, suc, subst, List, [], ◌∷◌, refl, sym, ap, ◌∙◌, Bool, true, false}
 use Rattle.std.specs.Prelude.{Option, Some, None, not, ◌&&◌, All}
 use Rattle.std.proofs.lemmas.List.Elements.{All-nil}
 use Rattle.std.specs.List.{list_all}
@@ -62,7 +62,7 @@ quiet_done trees before after quiet ends world scope deeper outer =
 
 -- ---- without definition keywords
 
-no_word : PlacedStep → Bool
+abbrev pub no_word : PlacedStep → Bool
 no_word s = not (is_definition_word s.step)
 
 -- where what a walk has left has no definition keyword, neither have the trees

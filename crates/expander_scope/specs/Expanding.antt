@@ -1,5 +1,5 @@
 -- The search of lists for calls, in a tree with piece-relative spans, and what it adds to an output.
-use Rattle.std.specs.Prelude.{◌≡◌, ◌<◌, ℕ, zero, suc, Bool, false, ◌&&◌, not, List, ◌++◌, map, Option, Some, None, Result, Ok, Err, if◌then◌else◌}
+use Rattle.std.specs.Prelude.{◌≡◌, ℕ, zero, suc, Bool, false, ◌&&◌, not, List, ◌++◌, map, Option, Some, None, Result, Ok, Err, if◌then◌else◌}
 use Rattle.tt_data.specs.Forest.{Forest, size}
 use Rattle.tt.specs.Tops.{Top}
 use Rattle.expander_scope.specs.declared.expand.Expanding.{Expanding}

@@ -1,5 +1,5 @@
 -- What is left of a group: the list around it goes on.
-use Rattle.std.specs.Prelude.{◌≡◌, ℕ, true, false, length, List, ◌++◌, reverse}
+use Rattle.std.specs.Prelude.{◌≡◌, true, false, length, List, ◌++◌, reverse}
 use Rattle.bridge.specs.Text.{is_visible}
 use Rattle.tt_data.specs.declared.delimiter.DelimiterKind.{DelimiterKind}
 use Rattle.expander_model.specs.Definitions.{Definition}

@@ -2,7 +2,7 @@
 use Rattle.std.specs.Prelude.{◌≡◌, ◌<◌, ◌||◌, ℕ, Bool, true, false, List, [], ◌∷◌, ◌++◌, Option, Some, None, codes, is_some, if◌then◌else◌}
 use Rattle.bridge.specs.Text.{is_char, is_visible}
 use Rattle.small_grammar.specs.Text.{has_text}
-use Rattle.tt_data.specs.Forest.{Forest, empty, leaf, group, size}
+use Rattle.tt_data.specs.Forest.{Forest, leaf, size}
 use Rattle.tt_data.specs.Walk.{closes}
 use Rattle.tt_data.specs.declared.delimiter.DelimiterKind.{DelimiterKind}
 use Rattle.tt_data.specs.declared.leaf.Leaf.TheVariants as as_leaf
@@ -11,9 +11,8 @@ use Rattle.expander_model.specs.Calls.{marked}
 use Rattle.expander_model.specs.Definitions.{Definition, definition_of}
 use Rattle.expander_model.specs.Expansion.{World, Outcome, just, followed_by}
 use Rattle.expander_model.specs.Held.{Numbered, unnumbered}
-use Rattle.expander_model.specs.PieceStates.{after_leaf, after_group}
 use Rattle.expander_model.specs.Pieces.{cut}
-use Rattle.expander_model.specs.Scoping.{Around, Scoped, Search, and_next, in_brackets, search_trees}
+use Rattle.expander_model.specs.Scoping.{Around, Scoped, search_trees}
 use Rattle.expander_model.specs.declared.begun.Begun.{Begun}
 use Rattle.expander_model.specs.declared.scope_rules.ScopeRules.{ScopeRules}
 use Rattle.expander_model.specs.declared.scope_rules.ScopeRules.TheVariants.{TopLevel, Rust}

@@ -35,11 +35,11 @@ use crate::macro_def::MacroDef;
 use crate::outcome::{Event, NameLookup, Outcome};
 use crate::scope::Scope;
 use bridge::parts::TokenEvent;
-use expander_model::call::{Beginning, Call, beginning_of, call_at, call_behind_colons, key_at};
 use expander_model::begun::Begun;
+use expander_model::call::{Beginning, Call, beginning_of, call_at, call_behind_colons, key_at};
 use expander_model::definition::definition_of;
-use expander_model::scope_rules::{ScopeRules, Standing};
 use expander_model::fault::{FaultKind, is_definition_word};
+use expander_model::scope_rules::{ScopeRules, Standing};
 use expander_model::tree_walk::TreeWalk;
 use mbe::{DeclarativeMacro, FragmentGrammar, MacroCallStyle};
 use std::alloc::{AllocError, Global};
@@ -286,6 +286,7 @@ fn resolve<G, S>(
         IfSome given (λ k. IsRead env.now.scope.now.edition k.value)) }
     ensures rules { search.new.rules ≡ search.old.rules }
     ensures locals { search.new.locals ≡ search.old.locals }
+    ensures read { AreReadIn env.now.scope.now.edition search.new.locals }
     ensures output { search.new.out.output ≡ search.old.out.output }
     ensures faults { search.new.out.faults ≡ search.old.out.faults }
     ensures finds { OnOk result (map find_of search.new.out.finds.items
@@ -363,7 +364,13 @@ fn keep_call<'a, S: EventSink>(
         search.old search.new walk.old walk.new) }
     ensures rules { search.new.rules ≡ search.old.rules }
 {
-    keep(alloc, outer, &mut search.out, &mut walk.trees.here, from_group)?;
+    keep(
+        alloc,
+        outer,
+        &mut search.out,
+        &mut walk.trees.here,
+        from_group,
+    )?;
     walk.begun = Begun::Other;
     let _entered = pass_event(outer, search, walk, true)?;
     Ok(())
@@ -428,7 +435,13 @@ fn define<G: FragmentGrammar, S: EventSink>(
     let place = definition.name.span;
     let known = MacroDef::in_list(env.alloc, env.scope.edition, piece, place)?;
     tell_broken(&mut search.out.faults, &known, outer.unwrap_or(place))?;
-    show_definition(env.alloc, outer, &mut search.out.output, standing, &definition.piece)?;
+    show_definition(
+        env.alloc,
+        outer,
+        &mut search.out.output,
+        standing,
+        &definition.piece,
+    )?;
     match Rc::new(env.alloc, known) {
         Ok(known) => search.locals.push(known)?,
         Err(_) => return Err(TtFault::Memory),
@@ -501,7 +514,13 @@ fn expand_call<'a, G: FragmentGrammar, S: EventSink>(
         }
         Err(kind) => {
             push_told(&mut search.out.faults, kind, at)?;
-            keep(env.alloc, outer, &mut search.out, &mut walk.trees.here, call.rest)?;
+            keep(
+                env.alloc,
+                outer,
+                &mut search.out,
+                &mut walk.trees.here,
+                call.rest,
+            )?;
             Ok(())
         }
     }
@@ -561,11 +580,7 @@ fn search_list<G: FragmentGrammar, S: EventSink>(
 
 // Whether the trees have no call, nothing that would be one but for the `::` before it, and where
 // lists have definitions no keyword of one. Such trees stay as they are.
-fn is_quiet(
-    alloc: Global,
-    rules: ScopeRules,
-    trees: &TtIter<'_>,
-) -> Result<bool, AllocError>
+fn is_quiet(alloc: Global, rules: ScopeRules, trees: &TtIter<'_>) -> Result<bool, AllocError>
     ensures calls { IfOk result (λ quiet. quiet ≡ true →
         (world : World Numbered) (scope : List ℕ → Option Numbered) (deeper : Deeper Numbered)
         (outer : Option Span) →

@@ -39,9 +39,7 @@ fn anchored_tree(alloc: Global, number: u32, tree: &TopSubtree) -> Result<TopSub
     let mut copy = tree.try_clone(alloc)?;
     let answer = move |anchor: u32|
         ensures { result ≡ anchor_by number anchor }
-    {
-        if number == 0 { anchor } else { number }
-    };
+    { if number == 0 { anchor } else { number } };
     copy.change_every_ast_id(alloc, answer)?;
     Ok(copy)
 }

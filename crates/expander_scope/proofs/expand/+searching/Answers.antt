@@ -3,14 +3,12 @@ use Rattle.tt_data.specs.Forest.{leaf}
 use Rattle.tt_data.specs.Lent.{leaf_lent}
 use Rattle.expander_model.specs.Definitions.{definition_of}
 use Rattle.expander_model.specs.Scoping.{defined}
-use Rattle.std.specs.Prelude.{Some, None, Ok, Err}
-use Rattle.expander_model.specs.CallSteps.{call_behind_colons}
+use Rattle.std.specs.Prelude.{Some, Ok, Err, OnOk}
 use Rattle.expander_model.specs.Held.{numbered_world, unnumbered}
 use Rattle.expander_model.specs.World.{world}
-use Rattle.expander_model.specs.WalkSteps.{GoesOn}
 use Rattle.bridge.specs.TokenEvents.{step_of}
 use Rattle.bridge.specs.declared.printing.event.TokenEvent.TheVariants as as_step
-use Rattle.expander_scope.specs.Expanding.{Adds, answer, searched, world_under}
+use Rattle.expander_scope.specs.Expanding.{Adds, answer, around_in, searched, searched_under, world_under}
 use Rattle.expander_scope.specs.ListsLeft.{IsAhead, all_left}
 use Rattle.expander_scope.specs.LocalTables.{AreReadIn, locals_of}
 use Rattle.expander_scope.specs.Turns.{IsPlainAhead}
@@ -18,7 +16,7 @@ use Rattle.expander_scope.specs.declared.expand.Search.{Search}
 use Rattle.expander_scope.specs.Outcomes.{numbered_of_known}
 use Rattle.expander_scope.specs.ScopeTable.{scope_in}
 use Rattle.expander_scope.proofs.CallResultLemmas.{adds_just}
-use Rattle.expander_scope.proofs.GoesLemmas.{at_mid, goes_comes, goes_leaf, goes_on_behind, goes_stays, goes_unknown, going_bursts, going_done, going_first, going_on, group_begins, going_turn, goes_colons, colons_before, colons_open, colons_group, no_call_at, ok_three, plain_at, opened_so, opens_before, answer_too_many, result_too_many, some_from}
+use Rattle.expander_scope.proofs.GoesLemmas.{at_mid, goes_comes, goes_leaf, goes_on_behind, goes_stays, goes_unknown, going_bursts, going_first, going_on, group_begins, going_turn, goes_colons, colons_before, colons_open, colons_group, no_call_at, ok_three, plain_at, opened_so, opens_before, answer_too_many, result_too_many, some_from}
 use Rattle.expander_scope.proofs.HandedLemmas.{handed}
 use Rattle.expander_scope.proofs.TurnLemmas.{call_opened, call_passed, colons_opened}
 use Rattle.expander_scope.proofs.expand.+searching.Goals as goal
@@ -48,17 +46,10 @@ expand_call-returns-in_err-result-clause-tokens g t c = λ e p at plain.
     (numbered_of_known c.in-Some.known.value) (rw c.in-Some.is at c.in_ok-known.ensures.found)
     ((rw c.as_ref.ensures at c.in_err-result.ensures.tokens) c.args.env.now.scope.now.edition (rw c.in-Some.is at c.in_ok-known.ensures.known) (handed c.from_residual-in_err-result.result _ c.from_residual-in_err-result.ensures.1 e))
 
-pub expand_call-search_list-requires : goal.expand_call-search_list-requires
-expand_call-search_list-requires g t c =
-    rw c.deeper.ensures (record {
-      read = c.requires.read;
-      locals = subst (AreReadIn c.args.env.now.scope.now.edition) (sym c.resolve.ensures.locals) c.requires.locals;
-    })
-
 pub expand_call-returns-in-Ok-clause-turn : goal.expand_call-returns-in-Ok-clause-turn
 expand_call-returns-in-Ok-clause-turn g t c =
     let says : answer (numbered_world (world (g.G.FragmentGrammar.answer c.args.env.now.grammar.now) c.args.env.now.scope.now.edition)) (numbered_of_known c.in-Some.known.value) c.args.env.now.depth c.args.call.argument ≡ Ok c.in-Ok.result.inner = sym ((rw (c.as_ref.ensures, c.in-Ok.is) at c.in_ok-result.ensures.given) c.args.env.now.scope.now.edition (rw c.in-Some.is at c.in_ok-known.ensures.known)) in
-    ok_three c.search_list.result (rw c.deeper.ensures at c.search_list.ensures.adds) (rw c.deeper.ensures at c.search_list.ensures.locals) (rw c.deeper.ensures at c.search_list.ensures.read)
+    ok_three c.search_list.result
     (λ (adds : Adds g.S.EventSink.has_taken c.resolve.new.search.out c.search_list.new.search.out
     (searched c.resolve.new.search.rules (world_under (g.G.FragmentGrammar.answer c.args.env.now.grammar.now) c.args.env.now.scope.now) (scope_in c.args.env.now.scope.now) (c.args.env.now.depth - 1)
     (record { standing = c.args.walk.now.standing; outer = Some c.unwrap_or-at.result; locals = locals_of c.resolve.new.search.locals }) c.iter-inside.result).outcome)
@@ -72,12 +63,21 @@ expand_call-returns-in-Ok-clause-turn g t c =
     (rw (c.unwrap_or-at.ensures, c.iter-inside.ensures, c.token_trees.ensures) at locals)
     read
     (record { here = c.go_on.ensures.here; groups = c.go_on.ensures.groups; begun = c.begun_behind-walk.ensures; standing = refl; levels = refl }))
+    (subst (λ env. OnOk c.search_list.result (Adds g.S.EventSink.has_taken c.resolve.new.search.out c.search_list.new.search.out
+    (searched_under c.resolve.new.search.rules (g.G.FragmentGrammar.answer env.grammar.now) env.scope.now env.depth
+    (around_in c.args.walk.now.standing (Some c.unwrap_or-at.result) c.resolve.new.search.locals) c.iter-inside.result).outcome)) c.deeper.ensures c.search_list.ensures.adds)
+    (subst (λ env. OnOk c.search_list.result (locals_of c.search_list.new.search.locals
+    ≡ (searched_under c.resolve.new.search.rules (g.G.FragmentGrammar.answer env.grammar.now) env.scope.now env.depth
+    (around_in c.args.walk.now.standing (Some c.unwrap_or-at.result) c.resolve.new.search.locals) c.iter-inside.result).defines ++ locals_of c.resolve.new.search.locals)) c.deeper.ensures c.search_list.ensures.locals)
+    (subst (λ env. OnOk c.search_list.result (AreReadIn env.scope.now.edition c.search_list.new.search.locals)) c.deeper.ensures c.search_list.ensures.read)
 
 pub expand_call-returns-in-Ok-clause-tokens : goal.expand_call-returns-in-Ok-clause-tokens
 expand_call-returns-in-Ok-clause-tokens g t c = λ e p at plain.
     let says : answer (numbered_world (world (g.G.FragmentGrammar.answer c.args.env.now.grammar.now) c.args.env.now.scope.now.edition)) (numbered_of_known c.in-Some.known.value) c.args.env.now.depth c.args.call.argument ≡ Ok c.in-Ok.result.inner = sym ((rw (c.as_ref.ensures, c.in-Ok.is) at c.in_ok-result.ensures.given) c.args.env.now.scope.now.edition (rw c.in-Some.is at c.in_ok-known.ensures.known)) in
     let much : (searched c.resolve.new.search.rules (world_under (g.G.FragmentGrammar.answer c.args.env.now.grammar.now) c.args.env.now.scope.now) (scope_in c.args.env.now.scope.now) (c.args.env.now.depth - 1)
-    (record { standing = c.args.walk.now.standing; outer = Some c.unwrap_or-at.result; locals = locals_of c.resolve.new.search.locals }) c.iter-inside.result).outcome.bursts ≡ true = rw c.deeper.ensures at (c.search_list.ensures.tokens e) in
+    (record { standing = c.args.walk.now.standing; outer = Some c.unwrap_or-at.result; locals = locals_of c.resolve.new.search.locals }) c.iter-inside.result).outcome.bursts ≡ true =
+    subst (λ env. (searched_under c.resolve.new.search.rules (g.G.FragmentGrammar.answer env.grammar.now) env.scope.now env.depth
+    (around_in c.args.walk.now.standing (Some c.unwrap_or-at.result) c.resolve.new.search.locals) c.iter-inside.result).outcome.bursts ≡ true) c.deeper.ensures (c.search_list.ensures.tokens e) in
     result_too_many c.args.search.now.rules (world_under (g.G.FragmentGrammar.answer c.args.env.now.grammar.now) c.args.env.now.scope.now) (scope_in c.args.env.now.scope.now) c.args.env.now.depth c.args.outer c.args.env.now.scope.now.edition g.S.EventSink.has_taken
     c.args.search.now c.resolve.new.search c.args.walk.now p at plain c.args.call c.requires.call c.resolve.ensures.locals c.resolve.ensures.output c.resolve.ensures.faults c.in_ok-known.ensures.finds
     (numbered_of_known c.in-Some.known.value) (rw c.in-Some.is at c.in_ok-known.ensures.found) c.in-Ok.result.inner says c.resolve.ensures.rules
@@ -97,25 +97,29 @@ expand_call-returns-clause-turn g t c = λ p at plain.
     (record { here = c.in_ok-keep-in-Err.ensures.rest; groups = refl; begun = c.begun_behind-walk.ensures; standing = refl; levels = refl })
 
 pub search_list-turns-init : goal.search_list-turns-init
-search_list-turns-init g t c =
-    (refl, going_first c.args.search.now.rules (world_under (g.G.FragmentGrammar.answer c.args.env.now.grammar.now) c.args.env.now.scope.now) (scope_in c.args.env.now.scope.now) c.args.env.now.depth c.args.outer c.args.env.now.scope.now.edition g.S.EventSink.has_taken
-    c.args.standing c.args.trees.now c.args.search.now c.new-walk.result c.new-walk.ensures.here c.new-walk.ensures.groups c.new-walk.ensures.begun c.new-walk.ensures.standing c.new-walk.ensures.levels c.requires.locals)
+search_list-turns-init g t c = (
+  refl,
+  going_first c.args.search.now.rules (world_under (g.G.FragmentGrammar.answer c.args.env.now.grammar.now) c.args.env.now.scope.now) (scope_in c.args.env.now.scope.now) c.args.env.now.depth c.args.outer c.args.env.now.scope.now.edition g.S.EventSink.has_taken
+      c.args.standing c.args.trees.now c.args.search.now c.new-walk.result c.new-walk.ensures.here c.new-walk.ensures.groups c.new-walk.ensures.begun c.new-walk.ensures.standing c.new-walk.ensures.levels c.requires.locals,
+)
 
 pub search_list-turns-preserved-in-Some : goal.search_list-turns-preserved-in-Some
 search_list-turns-preserved-in-Some g t c =
     let G = c.turns.invariant.1 in
     let some = c.in-Some.ensures.some in
-    let (d, is) = some_from (definition_of c.in-Some.piece) some.2.1.0 in
-    (c.define.ensures.rules ∙ c.turns.invariant.0, going_on c.args.search.now.rules (world_under (g.G.FragmentGrammar.answer c.args.env.now.grammar.now) c.args.env.now.scope.now) (scope_in c.args.env.now.scope.now) c.args.env.now.depth c.args.outer c.args.env.now.scope.now.edition g.S.EventSink.has_taken
-    _ c.args.search.now c.turns.search c.define.new.search c.turns.walk _ G
-    (goes_on_behind c.args.search.now.rules (world_under (g.G.FragmentGrammar.answer c.args.env.now.grammar.now) c.args.env.now.scope.now) (scope_in c.args.env.now.scope.now) c.args.env.now.depth c.args.outer c.args.env.now.scope.now.edition g.S.EventSink.has_taken
-    c.turns.search c.define.new.search c.turns.walk _ G.place G.at d c.in-Some.piece c.in-Some.rest
-    (sym c.turns.invariant.0 ∙ some.1) (sym G.at.begun ∙ some.0) (subst (λ f. IsAhead f (Some (c.in-Some.piece, c.in-Some.rest))) G.at.here some.2) is
-    c.go_on.ensures.here c.go_on.ensures.groups refl refl refl
-    (c.in_ok-define.ensures.locals d is) c.in_ok-define.ensures.read
-    (subst (λ s. Adds g.S.EventSink.has_taken c.turns.search.out c.define.new.search.out
-    (defined c.args.search.now.rules (world_under (g.G.FragmentGrammar.answer c.args.env.now.grammar.now) c.args.env.now.scope.now) unnumbered (scope_in c.args.env.now.scope.now) (record { standing = s; outer = c.args.outer; locals = G.place.locals }) d).outcome) G.at.standing
-    (c.in_ok-define.ensures.adds c.args.search.now.rules d G.place.locals is))))
+    let (d, is) = some_from (definition_of c.in-Some.piece) some.2.1.0 in (
+      c.define.ensures.rules ∙ c.turns.invariant.0,
+      going_on c.args.search.now.rules (world_under (g.G.FragmentGrammar.answer c.args.env.now.grammar.now) c.args.env.now.scope.now) (scope_in c.args.env.now.scope.now) c.args.env.now.depth c.args.outer c.args.env.now.scope.now.edition g.S.EventSink.has_taken
+          _ c.args.search.now c.turns.search c.define.new.search c.turns.walk _ G
+          (goes_on_behind c.args.search.now.rules (world_under (g.G.FragmentGrammar.answer c.args.env.now.grammar.now) c.args.env.now.scope.now) (scope_in c.args.env.now.scope.now) c.args.env.now.depth c.args.outer c.args.env.now.scope.now.edition g.S.EventSink.has_taken
+          c.turns.search c.define.new.search c.turns.walk _ G.place G.at d c.in-Some.piece c.in-Some.rest
+          (sym c.turns.invariant.0 ∙ some.1) (sym G.at.begun ∙ some.0) (subst (λ f. IsAhead f (Some (c.in-Some.piece, c.in-Some.rest))) G.at.here some.2) is
+          c.go_on.ensures.here c.go_on.ensures.groups refl refl refl
+          (c.in_ok-define.ensures.locals d is) c.in_ok-define.ensures.read
+          (subst (λ s. Adds g.S.EventSink.has_taken c.turns.search.out c.define.new.search.out
+          (defined c.args.search.now.rules (world_under (g.G.FragmentGrammar.answer c.args.env.now.grammar.now) c.args.env.now.scope.now) unnumbered (scope_in c.args.env.now.scope.now) (record { standing = s; outer = c.args.outer; locals = G.place.locals }) d).outcome) G.at.standing
+          (c.in_ok-define.ensures.adds c.args.search.now.rules d G.place.locals is))),
+    )
 
 pub search_list-turns-smaller-in_ok-expand_call-in-Call : goal.search_list-turns-smaller-in_ok-expand_call-in-Call
 search_list-turns-smaller-in_ok-expand_call-in-Call g t c =
@@ -124,10 +128,12 @@ search_list-turns-smaller-in_ok-expand_call-in-Call g t c =
 
 pub search_list-turns-preserved-in_ok-expand_call-in-Call : goal.search_list-turns-preserved-in_ok-expand_call-in-Call
 search_list-turns-preserved-in_ok-expand_call-in-Call g t c =
-    let G = c.turns.invariant.1 in
-    (c.in_ok-expand_call-in-Call.ensures.rules ∙ c.turns.invariant.0, going_turn c.args.search.now.rules (world_under (g.G.FragmentGrammar.answer c.args.env.now.grammar.now) c.args.env.now.scope.now) (scope_in c.args.env.now.scope.now) c.args.env.now.depth c.args.outer c.args.env.now.scope.now.edition g.S.EventSink.has_taken
-    _ c.args.search.now c.turns.search c.expand_call.new.search c.turns.walk c.expand_call.new.walk G c.turns.invariant.0
-    (c.in_ok-expand_call-in-Call.ensures.turn G.place G.at (plain_at c.turns.walk c.turns.search.locals G.place G.at c.turns.search.rules c.in_default.ensures.none)))
+    let G = c.turns.invariant.1 in (
+      c.in_ok-expand_call-in-Call.ensures.rules ∙ c.turns.invariant.0,
+      going_turn c.args.search.now.rules (world_under (g.G.FragmentGrammar.answer c.args.env.now.grammar.now) c.args.env.now.scope.now) (scope_in c.args.env.now.scope.now) c.args.env.now.depth c.args.outer c.args.env.now.scope.now.edition g.S.EventSink.has_taken
+          _ c.args.search.now c.turns.search c.expand_call.new.search c.turns.walk c.expand_call.new.walk G c.turns.invariant.0
+          (c.in_ok-expand_call-in-Call.ensures.turn G.place G.at (plain_at c.turns.walk c.turns.search.locals G.place G.at c.turns.search.rules c.in_default.ensures.none)),
+    )
 
 pub search_list-returns-in_err-expand_call-in-Call-clause-tokens : goal.search_list-returns-in_err-expand_call-in-Call-clause-tokens
 search_list-returns-in_err-expand_call-in-Call-clause-tokens g t c = λ e.
@@ -145,7 +151,7 @@ search_list-turns-smaller-in-BehindColons g t c =
     let plain = subst (λ r. IsPlainAhead r G.place) c.turns.invariant.0 (plain_at c.turns.walk c.turns.search.locals G.place G.at c.turns.search.rules c.in_default.ensures.none) in
     let e = (rw c.in-BehindColons.is at c.beginning_of.ensures).1 in
     (goes_colons c.args.search.now.rules (world_under (g.G.FragmentGrammar.answer c.args.env.now.grammar.now) c.args.env.now.scope.now) (scope_in c.args.env.now.scope.now) c.args.env.now.depth c.args.outer c.args.env.now.scope.now.edition g.S.EventSink.has_taken
-    c.turns.search c.keep_call.new.search c.turns.walk c.keep_call.new.walk G.place G.at plain c.in-BehindColons.call e c.turns.invariant.0 
+    c.turns.search c.keep_call.new.search c.turns.walk c.keep_call.new.walk G.place G.at plain c.in-BehindColons.call e c.turns.invariant.0
     (c.in_ok-keep_call-in-BehindColons.ensures.turn (world_under (g.G.FragmentGrammar.answer c.args.env.now.grammar.now) c.args.env.now.scope.now) (scope_in c.args.env.now.scope.now) c.args.env.now.depth c.args.env.now.scope.now.edition G.place (colons_before c.args.search.now.rules (world_under (g.G.FragmentGrammar.answer c.args.env.now.grammar.now) c.args.env.now.scope.now) (scope_in c.args.env.now.scope.now) c.args.env.now.depth c.args.outer c.args.env.now.scope.now.edition g.S.EventSink.has_taken
     c.turns.search c.keep_call.new.search c.turns.walk c.keep_call.new.walk G.place G.at plain c.in-BehindColons.call e) G.at (colons_open c.args.search.now.rules (world_under (g.G.FragmentGrammar.answer c.args.env.now.grammar.now) c.args.env.now.scope.now) (scope_in c.args.env.now.scope.now) c.args.env.now.depth c.args.outer c.args.env.now.scope.now.edition g.S.EventSink.has_taken
     c.turns.search c.keep_call.new.search c.turns.walk c.keep_call.new.walk G.place G.at plain c.in-BehindColons.call e) (colons_group c.args.search.now.rules (world_under (g.G.FragmentGrammar.answer c.args.env.now.grammar.now) c.args.env.now.scope.now) (scope_in c.args.env.now.scope.now) c.args.env.now.depth c.args.outer c.args.env.now.scope.now.edition g.S.EventSink.has_taken
@@ -155,28 +161,32 @@ pub search_list-turns-preserved-in-BehindColons : goal.search_list-turns-preserv
 search_list-turns-preserved-in-BehindColons g t c =
     let G = c.turns.invariant.1 in
     let plain = subst (λ r. IsPlainAhead r G.place) c.turns.invariant.0 (plain_at c.turns.walk c.turns.search.locals G.place G.at c.turns.search.rules c.in_default.ensures.none) in
-    let e = (rw c.in-BehindColons.is at c.beginning_of.ensures).1 in
-    (c.keep_call.ensures.rules ∙ c.turns.invariant.0, going_on c.args.search.now.rules (world_under (g.G.FragmentGrammar.answer c.args.env.now.grammar.now) c.args.env.now.scope.now) (scope_in c.args.env.now.scope.now) c.args.env.now.depth c.args.outer c.args.env.now.scope.now.edition g.S.EventSink.has_taken
-    _ c.args.search.now c.turns.search c.keep_call.new.search c.turns.walk c.keep_call.new.walk G
-    (goes_colons c.args.search.now.rules (world_under (g.G.FragmentGrammar.answer c.args.env.now.grammar.now) c.args.env.now.scope.now) (scope_in c.args.env.now.scope.now) c.args.env.now.depth c.args.outer c.args.env.now.scope.now.edition g.S.EventSink.has_taken
-    c.turns.search c.keep_call.new.search c.turns.walk c.keep_call.new.walk G.place G.at plain c.in-BehindColons.call e c.turns.invariant.0 
-    (c.in_ok-keep_call-in-BehindColons.ensures.turn (world_under (g.G.FragmentGrammar.answer c.args.env.now.grammar.now) c.args.env.now.scope.now) (scope_in c.args.env.now.scope.now) c.args.env.now.depth c.args.env.now.scope.now.edition G.place (colons_before c.args.search.now.rules (world_under (g.G.FragmentGrammar.answer c.args.env.now.grammar.now) c.args.env.now.scope.now) (scope_in c.args.env.now.scope.now) c.args.env.now.depth c.args.outer c.args.env.now.scope.now.edition g.S.EventSink.has_taken
-    c.turns.search c.keep_call.new.search c.turns.walk c.keep_call.new.walk G.place G.at plain c.in-BehindColons.call e) G.at (colons_open c.args.search.now.rules (world_under (g.G.FragmentGrammar.answer c.args.env.now.grammar.now) c.args.env.now.scope.now) (scope_in c.args.env.now.scope.now) c.args.env.now.depth c.args.outer c.args.env.now.scope.now.edition g.S.EventSink.has_taken
-    c.turns.search c.keep_call.new.search c.turns.walk c.keep_call.new.walk G.place G.at plain c.in-BehindColons.call e) (colons_group c.args.search.now.rules (world_under (g.G.FragmentGrammar.answer c.args.env.now.grammar.now) c.args.env.now.scope.now) (scope_in c.args.env.now.scope.now) c.args.env.now.depth c.args.outer c.args.env.now.scope.now.edition g.S.EventSink.has_taken
-    c.turns.search c.keep_call.new.search c.turns.walk c.keep_call.new.walk G.place G.at plain c.in-BehindColons.call e))))
+    let e = (rw c.in-BehindColons.is at c.beginning_of.ensures).1 in (
+      c.keep_call.ensures.rules ∙ c.turns.invariant.0,
+      going_on c.args.search.now.rules (world_under (g.G.FragmentGrammar.answer c.args.env.now.grammar.now) c.args.env.now.scope.now) (scope_in c.args.env.now.scope.now) c.args.env.now.depth c.args.outer c.args.env.now.scope.now.edition g.S.EventSink.has_taken
+          _ c.args.search.now c.turns.search c.keep_call.new.search c.turns.walk c.keep_call.new.walk G
+          (goes_colons c.args.search.now.rules (world_under (g.G.FragmentGrammar.answer c.args.env.now.grammar.now) c.args.env.now.scope.now) (scope_in c.args.env.now.scope.now) c.args.env.now.depth c.args.outer c.args.env.now.scope.now.edition g.S.EventSink.has_taken
+          c.turns.search c.keep_call.new.search c.turns.walk c.keep_call.new.walk G.place G.at plain c.in-BehindColons.call e c.turns.invariant.0
+          (c.in_ok-keep_call-in-BehindColons.ensures.turn (world_under (g.G.FragmentGrammar.answer c.args.env.now.grammar.now) c.args.env.now.scope.now) (scope_in c.args.env.now.scope.now) c.args.env.now.depth c.args.env.now.scope.now.edition G.place (colons_before c.args.search.now.rules (world_under (g.G.FragmentGrammar.answer c.args.env.now.grammar.now) c.args.env.now.scope.now) (scope_in c.args.env.now.scope.now) c.args.env.now.depth c.args.outer c.args.env.now.scope.now.edition g.S.EventSink.has_taken
+          c.turns.search c.keep_call.new.search c.turns.walk c.keep_call.new.walk G.place G.at plain c.in-BehindColons.call e) G.at (colons_open c.args.search.now.rules (world_under (g.G.FragmentGrammar.answer c.args.env.now.grammar.now) c.args.env.now.scope.now) (scope_in c.args.env.now.scope.now) c.args.env.now.depth c.args.outer c.args.env.now.scope.now.edition g.S.EventSink.has_taken
+          c.turns.search c.keep_call.new.search c.turns.walk c.keep_call.new.walk G.place G.at plain c.in-BehindColons.call e) (colons_group c.args.search.now.rules (world_under (g.G.FragmentGrammar.answer c.args.env.now.grammar.now) c.args.env.now.scope.now) (scope_in c.args.env.now.scope.now) c.args.env.now.depth c.args.outer c.args.env.now.scope.now.edition g.S.EventSink.has_taken
+          c.turns.search c.keep_call.new.search c.turns.walk c.keep_call.new.walk G.place G.at plain c.in-BehindColons.call e))),
+    )
 
 pub search_list-turns-preserved-in_ok-take-in-Leaf : goal.search_list-turns-preserved-in_ok-take-in-Leaf
 search_list-turns-preserved-in_ok-take-in-Leaf g t c =
     let G = c.turns.invariant.1 in
     let plain = subst (λ r. IsPlainAhead r G.place) c.turns.invariant.0 (plain_at c.turns.walk c.turns.search.locals G.place G.at c.turns.search.rules c.in_default.ensures.none) in
-    let begins = rw c.in-Leaf.is at c.beginning_of.ensures in
-    (c.turns.invariant.0, going_on c.args.search.now.rules (world_under (g.G.FragmentGrammar.answer c.args.env.now.grammar.now) c.args.env.now.scope.now) (scope_in c.args.env.now.scope.now) c.args.env.now.depth c.args.outer c.args.env.now.scope.now.edition g.S.EventSink.has_taken
-    _ c.args.search.now c.turns.search _ c.turns.walk _ G
-    (goes_leaf c.args.search.now.rules (world_under (g.G.FragmentGrammar.answer c.args.env.now.grammar.now) c.args.env.now.scope.now) (scope_in c.args.env.now.scope.now) c.args.env.now.depth c.args.outer c.args.env.now.scope.now.edition g.S.EventSink.has_taken
-    c.turns.search _ c.turns.walk _ G.place G.at (leaf_lent c.in-Leaf.leaf) plain
-    (no_call_at c.turns.walk c.turns.search.locals G.place G.at begins.0 begins.1)
-    (sym G.at.here ∙ begins.2 ∙ ap (leaf (leaf_lent c.in-Leaf.leaf)) (sym c.go_on-in-Leaf.ensures.here)) c.go_on-in-Leaf.ensures.groups c.with_leaf-walk.ensures refl refl refl
-    (adds_just g.S.EventSink.has_taken c.turns.search.out _ c.args.outer (step_of (as_step.Leaf c.in-Leaf.leaf) ∷ []) c.in_ok-take-in-Leaf.ensures refl refl)))
+    let begins = rw c.in-Leaf.is at c.beginning_of.ensures in (
+      c.turns.invariant.0,
+      going_on c.args.search.now.rules (world_under (g.G.FragmentGrammar.answer c.args.env.now.grammar.now) c.args.env.now.scope.now) (scope_in c.args.env.now.scope.now) c.args.env.now.depth c.args.outer c.args.env.now.scope.now.edition g.S.EventSink.has_taken
+          _ c.args.search.now c.turns.search _ c.turns.walk _ G
+          (goes_leaf c.args.search.now.rules (world_under (g.G.FragmentGrammar.answer c.args.env.now.grammar.now) c.args.env.now.scope.now) (scope_in c.args.env.now.scope.now) c.args.env.now.depth c.args.outer c.args.env.now.scope.now.edition g.S.EventSink.has_taken
+          c.turns.search _ c.turns.walk _ G.place G.at (leaf_lent c.in-Leaf.leaf) plain
+          (no_call_at c.turns.walk c.turns.search.locals G.place G.at begins.0 begins.1)
+          (sym G.at.here ∙ begins.2 ∙ ap (leaf (leaf_lent c.in-Leaf.leaf)) (sym c.go_on-in-Leaf.ensures.here)) c.go_on-in-Leaf.ensures.groups c.with_leaf-walk.ensures refl refl refl
+          (adds_just g.S.EventSink.has_taken c.turns.search.out _ c.args.outer (step_of (as_step.Leaf c.in-Leaf.leaf) ∷ []) c.in_ok-take-in-Leaf.ensures refl refl)),
+    )
 
 pub search_list-returns-then-not-branch-clause-read : goal.search_list-returns-then-not-branch-clause-read
 search_list-returns-then-not-branch-clause-read g t c =
@@ -195,8 +205,10 @@ pub search_list-turns-preserved : goal.search_list-turns-preserved
 search_list-turns-preserved g t c =
     let G = c.turns.invariant.1 in
     let more : c.in_ok-pass_event-in-Other.field-0 ≡ true = search rules in
-    let begins = rw c.in-Other.is at c.beginning_of.ensures in
-    (c.pass_event.ensures.rules ∙ c.turns.invariant.0, going_turn c.args.search.now.rules (world_under (g.G.FragmentGrammar.answer c.args.env.now.grammar.now) c.args.env.now.scope.now) (scope_in c.args.env.now.scope.now) c.args.env.now.depth c.args.outer c.args.env.now.scope.now.edition g.S.EventSink.has_taken
-    _ c.args.search.now c.turns.search c.pass_event.new.search c.turns.walk c.pass_event.new.walk G c.turns.invariant.0
-    (c.in_ok-pass_event-in-Other.ensures.turn more (world_under (g.G.FragmentGrammar.answer c.args.env.now.grammar.now) c.args.env.now.scope.now) (scope_in c.args.env.now.scope.now) c.args.env.now.depth c.args.env.now.scope.now.edition G.place G.at
-    ((plain_at c.turns.walk c.turns.search.locals G.place G.at c.turns.search.rules c.in_default.ensures.none), no_call_at c.turns.walk c.turns.search.locals G.place G.at begins.0 begins.1)))
+    let begins = rw c.in-Other.is at c.beginning_of.ensures in (
+      c.pass_event.ensures.rules ∙ c.turns.invariant.0,
+      going_turn c.args.search.now.rules (world_under (g.G.FragmentGrammar.answer c.args.env.now.grammar.now) c.args.env.now.scope.now) (scope_in c.args.env.now.scope.now) c.args.env.now.depth c.args.outer c.args.env.now.scope.now.edition g.S.EventSink.has_taken
+          _ c.args.search.now c.turns.search c.pass_event.new.search c.turns.walk c.pass_event.new.walk G c.turns.invariant.0
+          (c.in_ok-pass_event-in-Other.ensures.turn more (world_under (g.G.FragmentGrammar.answer c.args.env.now.grammar.now) c.args.env.now.scope.now) (scope_in c.args.env.now.scope.now) c.args.env.now.depth c.args.env.now.scope.now.edition G.place G.at
+          ((plain_at c.turns.walk c.turns.search.locals G.place G.at c.turns.search.rules c.in_default.ensures.none), no_call_at c.turns.walk c.turns.search.locals G.place G.at begins.0 begins.1)),
+    )

@@ -1,17 +1,12 @@
-use Rattle.std.proofs.Common.{◌≡◌, ◌∙◌, ap, refl, subst, sym, Bool, if◌then◌else◌, []}
+use Rattle.std.proofs.Common.{◌≡◌, ◌∙◌, ap, refl, subst, sym, if◌then◌else◌, []}
 use Rattle.std.specs.Prelude.{is_some, unwrap_or}
 use Rattle.tt_data.specs.Walk.{walk}
-use Rattle.tt_data.specs.declared.span.Span.{Span}
 use Rattle.mbe.specs.Macros.{rules_of}
-use Rattle.mbe_rules.specs.Items.{Rules}
 use Rattle.expander_model.specs.Definitions.{Definition}
-use Rattle.expander_model.specs.Expansion.{faulted, just}
-use Rattle.expander_model.specs.Held.{Numbered, anchored_definition, unnumbered}
+use Rattle.expander_model.specs.Held.{anchored_definition, unnumbered}
 use Rattle.expander_model.specs.Scoping.{is_left_out}
 use Rattle.expander_model.specs.World.{rules_in}
-use Rattle.expander_model.specs.declared.fault.FaultKind.TheVariants.{BrokenDefinition}
 use Rattle.expander_scope.specs.Editions.{IsRead}
-use Rattle.expander_scope.specs.Expanding.{Adds}
 use Rattle.expander_scope.specs.Outcomes.{numbered_of_known}
 use Rattle.expander_scope.proofs.CallResultLemmas.{adds_defined}
 use Rattle.expander_scope.proofs.HeldLemmas.{some_is}

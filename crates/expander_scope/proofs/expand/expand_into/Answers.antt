@@ -1,11 +1,5 @@
-use Rattle.std.proofs.Common.{◌≡◌, [], ap, refl, subst}
-use Rattle.std.specs.Prelude.{List, None}
-use Rattle.expander_model.specs.Definitions.{Definition}
 use Rattle.expander_model.specs.Held.{numbered_world}
 use Rattle.expander_model.specs.World.{world}
-use Rattle.expander_model.specs.declared.scope_rules.Standing.TheVariants.{Top}
-use Rattle.expander_model.specs.declared.scope_rules.ScopeRules.TheVariants.{TopLevel}
-use Rattle.expander_scope.specs.Expanding.{Adds, searched}
 use Rattle.expander_scope.specs.ScopeTable.{scope_in}
 use Rattle.expander_scope.proofs.HandedLemmas.{handed}
 use Rattle.expander_scope.proofs.CallResultLemmas.{piece_bursts, piece_expands}
@@ -14,9 +8,9 @@ use Rattle.expander_scope.proofs.expand.expand_into.Goals as goal
 pub returns-in_err-search_list-clause-tokens : goal.returns-in_err-search_list-clause-tokens
 returns-in_err-search_list-clause-tokens g c = λ e.
     piece_bursts (numbered_world (world (g.G.FragmentGrammar.answer c.args.env.now.grammar.now) c.args.env.now.scope.now.edition)) (scope_in c.args.env.now.scope.now) c.args.env.now.depth c.args.tree.now.inner
-    (rw (c.iter.ensures, c.new-locals.ensures.none) at (c.in_err-search_list.ensures.tokens (handed c.from_residual.result _ c.from_residual.ensures.1 e)))
+    (rw (c.iter.ensures, c.new-3.ensures.none) at (c.in_err-search_list.ensures.tokens (handed c.from_residual.result _ c.from_residual.ensures.1 e)))
 
 pub returns-clause-expands : goal.returns-clause-expands
 returns-clause-expands g c =
     piece_expands (numbered_world (world (g.G.FragmentGrammar.answer c.args.env.now.grammar.now) c.args.env.now.scope.now.edition)) (scope_in c.args.env.now.scope.now) c.args.env.now.depth c.args.tree.now.inner
-    g.S.EventSink.has_taken _ c.search_list.new.search.out c.new.ensures.items c.new-2.ensures.items (rw (c.iter.ensures, c.new-locals.ensures.none) at c.in_ok-search_list.ensures.adds)
+    g.S.EventSink.has_taken _ c.search_list.new.search.out c.new.ensures.items c.new-2.ensures.items (rw (c.iter.ensures, c.new-3.ensures.none) at c.in_ok-search_list.ensures.adds)

@@ -1,5 +1,4 @@
 use Rattle.std.proofs.Common.{[], ap, map, ◌∙◌}
-use Rattle.std.specs.Prelude.{None}
 use Rattle.expander_model.specs.Held.{numbered_world}
 use Rattle.expander_model.specs.World.{world}
 use Rattle.expander_model.specs.declared.scope_rules.ScopeRules.TheVariants.{TopLevel}

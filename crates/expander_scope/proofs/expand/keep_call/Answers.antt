@@ -1,4 +1,4 @@
-use Rattle.std.proofs.Common.{◌≡◌, ◌∙◌, Bool, true, false, refl, sym}
+use Rattle.std.proofs.Common.{◌≡◌, ◌∙◌, true, refl}
 use Rattle.expander_model.specs.declared.begun.Begun.TheVariants.{Other}
 use Rattle.expander_scope.specs.ListsLeft.{Place}
 use Rattle.expander_scope.specs.Turns.{IsAt}

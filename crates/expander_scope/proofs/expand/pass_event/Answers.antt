@@ -1,4 +1,4 @@
-use Rattle.std.proofs.Common.{◌≡◌, [], ◌∷◌, refl, ◌∙◌, ap}
+use Rattle.std.proofs.Common.{[], ◌∷◌, refl, ◌∙◌}
 use Rattle.std.specs.Prelude.{Some}
 use Rattle.bridge.specs.TokenEvents.{step_of}
 use Rattle.bridge.specs.declared.printing.event.TokenEvent.TheVariants as as_step

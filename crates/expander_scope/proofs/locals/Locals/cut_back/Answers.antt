@@ -1,4 +1,4 @@
-use Rattle.std.proofs.Common.{sym, ◌∙◌}
+use Rattle.std.proofs.Common.{◌∙◌}
 use Rattle.std.specs.Rc.{rc_value}
 use Rattle.expander_scope.specs.Editions.{IsRead}
 use Rattle.expander_scope.specs.NameStacks.{entries_of}
