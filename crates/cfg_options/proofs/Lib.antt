@@ -7,3 +7,4 @@ pub mod OptionLemmas
 pub mod StepLemmas
 pub mod StringLemmas
 pub mod WordLemmas
+mod Rows

@@ -22,11 +22,13 @@ pub unit_on : (is_raw : Bool) (n : ℕ) (out rest front after : List ℕ) (all :
     → (m : ℕ) × (length after ≤ m) × (all ≡ option_map (λ back. (out ++ front) ++ back) (unescaped is_raw m after))
 unit_on is_raw n out [] front after all fits less at e = absurd (cc at)
 unit_on is_raw zero out (c ∷ cs) front after all fits less at e = absurd (omega (arith, fits))
-unit_on is_raw (suc n) out (c ∷ cs) front after all fits less at e =
-    (n, omega (arith, fits, less),
-    e
-    ∙ ap (λ u. option_map (λ back. out ++ back) (u >>= λ (f, a). unescaped is_raw n a >>= λ back. Some (f ++ back))) at
-    ∙ put_on out front (unescaped is_raw n after))
+unit_on is_raw (suc n) out (c ∷ cs) front after all fits less at e = (
+  n,
+  omega (arith, fits, less),
+  e
+      ∙ ap (λ u. option_map (λ back. out ++ back) (u >>= λ (f, a). unescaped is_raw n a >>= λ back. Some (f ++ back))) at
+      ∙ put_on out front (unescaped is_raw n after),
+)
 
 pub at_end : (is_raw : Bool) (n : ℕ) (out rest : List ℕ) (all : Option (List ℕ)) → rest ≡ [] → all ≡ option_map (λ back. out ++ back) (unescaped is_raw n rest) → all ≡ Some (out ++ [])
 at_end is_raw n out rest all e h = h ∙ ap (λ r. option_map (λ back. out ++ back) (unescaped is_raw n r)) e

@@ -86,11 +86,7 @@ fn only_value(options: &CfgOptions, list: &TtIter<'_>) -> Result<Option<bool>, A
     ensures { IfOk result (λ v. v ≡ only_value options.now list.now) }
 {
     let (value, rest) = first_value(options, list)?;
-    if rest.is_empty() {
-        Ok(value)
-    } else {
-        Ok(None)
-    }
+    if rest.is_empty() { Ok(value) } else { Ok(None) }
 }
 
 // What is found out about a `cfg` with this value of its predicate, whose name is at `span`.
@@ -283,10 +279,7 @@ fn first_attribute<'a>(trees: &TtIter<'a>) -> Option<(TtIter<'a>, TtIter<'a>)>
 }
 
 /// What is found out about the outer attributes of a piece.
-pub(crate) fn found_before(
-    options: &CfgOptions,
-    piece: &TtIter<'_>,
-) -> Result<Finding, AllocError>
+pub(crate) fn found_before(options: &CfgOptions, piece: &TtIter<'_>) -> Result<Finding, AllocError>
     ensures { IfOk result (λ f. f ≡ found_before options.now piece.now) }
 {
     let mut found = Finding {

@@ -212,11 +212,7 @@ fn add_unit(out: &mut Vec<u8>, unit: StringPart) -> Result<(), AllocError>
 }
 
 // What the text between the quotes stands for, of a raw string or another.
-fn unescaped(
-    alloc: Global,
-    is_raw: bool,
-    text: &[u8],
-) -> Result<Option<Vec<u8>>, AllocError>
+fn unescaped(alloc: Global, is_raw: bool, text: &[u8]) -> Result<Option<Vec<u8>>, AllocError>
     ensures { IfOk result (λ v. option_map (λ b. b.items) v
         ≡ unescaped is_raw (length text.now) text.now) }
 {
@@ -245,10 +241,7 @@ fn string_kind(kind: LitKind) -> Option<bool>
 
 /// What a string literal stands for, or `None` for another literal, a suffix, and an escape that
 /// Rust has not. Its only error is out of memory.
-pub fn string_text(
-    alloc: Global,
-    literal: LiteralRef<'_>,
-) -> Result<Option<Vec<u8>>, AllocError>
+pub fn string_text(alloc: Global, literal: LiteralRef<'_>) -> Result<Option<Vec<u8>>, AllocError>
     ensures { IfOk result (λ v. option_map (λ b. b.items) v
         ≡ string_text (literal_lent literal.entry)) }
 {

@@ -44,13 +44,7 @@ fn value_of<'a>(trees: &TtIter<'a>) -> Option<LiteralRef<'a>>
         return None;
     }
     match after.lent_leaf()? {
-        (LeafRef::Literal(literal), rest) => {
-            if rest.is_empty() {
-                Some(literal)
-            } else {
-                None
-            }
-        }
+        (LeafRef::Literal(literal), rest) => { if rest.is_empty() { Some(literal) } else { None } }
         _ => None,
     }
 }

@@ -16,8 +16,8 @@ returns-in-Some-list_behind-clause-found c =
     IfOk-weaker c.read_cfg_attr.result
     (λ r. r ≡ found_of_cfg_attr (first_value c.args.options.now c.in-Some-list_behind.list) (span_of_name (codes "cfg_attr") c.args.attribute.now) (after_part c.in-Some-list_behind.list)) _
     (λ r h.
-      ap (λ x. and_also x.0 (found_inside c.args.options.now x.1)) h
-      ∙ read_attr_is c.args.options.now c.args.attribute.now c.in-Some-list_behind.list (sym c.in-Some-list_behind.ensures))
+    ap (λ x. and_also x.0 (found_inside c.args.options.now x.1)) h
+    ∙ read_attr_is c.args.options.now c.args.attribute.now c.in-Some-list_behind.list (sym c.in-Some-list_behind.ensures))
     c.read_cfg_attr.ensures
 
 pub returns-in-Some-list_behind-clause-less : goal.returns-in-Some-list_behind-clause-less

@@ -10,11 +10,11 @@ use Rattle.cfg_options.proofs.predicate.close.Goals as goal
 pub returns-in-Some-clause-value : goal.returns-in-Some-clause-value
 returns-in-Some-clause-value c =
     λ f.
-      c.given.ensures.value f
-      ∙ ap (λ o. whole_value f c.pop.new.self.items (value_around f c.in-Some.list o)) c.ended-value.ensures
-      ∙ sym (innermost f c.pop.new.self.items c.in-Some.list (ended c.args.lists.list.so_far))
-      ∙ ap (λ ls. whole_value f ls (ended c.args.lists.list.so_far)) (sym c.in-Some.ensures.items)
-      ∙ sym (ap (λ g. whole_value f c.args.lists.around.items (value_of_rest f c.args.lists.list.so_far (cut_at_commas g empty))) c.requires)
+    c.given.ensures.value f
+    ∙ ap (λ o. whole_value f c.pop.new.self.items (value_around f c.in-Some.list o)) c.ended-value.ensures
+    ∙ sym (innermost f c.pop.new.self.items c.in-Some.list (ended c.args.lists.list.so_far))
+    ∙ ap (λ ls. whole_value f ls (ended c.args.lists.list.so_far)) (sym c.in-Some.ensures.items)
+    ∙ sym (ap (λ g. whole_value f c.args.lists.around.items (value_of_rest f c.args.lists.list.so_far (cut_at_commas g empty))) c.requires)
 
 pub returns-in-Some-clause-less : goal.returns-in-Some-clause-less
 returns-in-Some-clause-less c =

@@ -14,6 +14,6 @@ returns-in_default-clause-value c =
 pub returns-in_default-with_value-clause-value : goal.returns-in_default-with_value-clause-value
 returns-in_default-with_value-clause-value c =
     λ f.
-      sym (ap (λ o. whole_value f c.args.lists.around.items (value_around f c.args.lists.list o)) c.in-Some.is
-      ∙ ap (λ o. whole_value f c.args.lists.around.items (o >>= λ next. value_of_rest f next (cut_at_commas c.args.lists.list.rest empty))) (sym c.in_default-with_value.ensures)
-      ∙ no_value f c.args.lists.around.items)
+    sym (ap (λ o. whole_value f c.args.lists.around.items (value_around f c.args.lists.list o)) c.in-Some.is
+    ∙ ap (λ o. whole_value f c.args.lists.around.items (o >>= λ next. value_of_rest f next (cut_at_commas c.args.lists.list.rest empty))) (sym c.in_default-with_value.ensures)
+    ∙ no_value f c.args.lists.around.items)
