@@ -377,14 +377,20 @@ first_is options f part rest v some p r e =
     ∙ ap Then r
 
 -- what a `cfg_attr` stands for is less
+abbrev pub IsAtMost : ℕ → Option Forest → Type 0
+IsAtMost n inside = IfSome inside (λ l. size l + 2 ≤ n)
+
+inside_at_most : (a f : Forest) (v : Option Bool) (s : Option Span) → list_behind (codes "cfg_attr") a ≡ Some f → IsAtMost (size a) (found_of_cfg_attr v s (after_part f)).1
+inside_at_most a f None s e = tt
+inside_at_most a f (Some false) s e = tt
+inside_at_most a f (Some true) s e = omega (arith, list_less (codes "cfg_attr") a f e, part_sizes f)
+
 pub attr_less : (a f : Forest) (v : Option Bool) (s : Option Span) (inside : Option Forest) → list_behind (codes "cfg_attr") a ≡ Some f
-    → inside ≡ (found_of_cfg_attr v s (after_part f)).1 → IfSome inside (λ l. size l + 2 ≤ size a)
-attr_less a f v s inside e h = subst IsIt (sym h) (go v)
-  where
-    IsIt : Option Forest → Type 0
-    IsIt i = IfSome i (λ l. size l + 2 ≤ size a)
-    go : (v : Option Bool) → IsIt (found_of_cfg_attr v s (after_part f)).1
-    unfolding IsIt
-    go None = tt
-    go (Some false) = tt
-    go (Some true) = omega (arith, list_less (codes "cfg_attr") a f e, part_sizes f)
+    → inside ≡ (found_of_cfg_attr v s (after_part f)).1 → IsAtMost (size a) inside
+attr_less a f v s inside e h =
+    let P : Option Forest → Type 0 = λ i. IsAtMost (size a) i in
+    subst P (sym h) (inside_at_most a f v s e)
+
+-- a list of more than one part has no only value
+pub none_alone : (options : CfgOptions) (f rest : Forest) → rest ≡ after_part f → is_empty rest ≡ false → None ≡ only_value options f
+none_alone options f rest e h = sym (ap (λ b. if b then first_value options f else None) (sym (ap is_empty e) ∙ h))

@@ -1,5 +1,5 @@
 -- Options after one more.
-use Rattle.std.proofs.Common.{◌≡◌, ℕ, Bool, true, false, ◌&&◌, ◌||◌, List, ◌∷◌, Option, Some, None, option_map, refl, sym, ap, ◌∙◌}
+use Rattle.std.proofs.Common.{◌≡◌, ℕ, Bool, true, false, ◌&&◌, ◌||◌, List, [], ◌∷◌, Option, Some, None, option_map, refl, sym, ap, ◌∙◌}
 use Rattle.std.specs.Prelude.{not}
 use Rattle.std.specs.Bool.{MatchBool}
 use Rattle.std.specs.List.{list_any}
@@ -48,3 +48,30 @@ one_more false n v k ks ns h had =
 pub had_it : (b : Bool) → not b ≡ false → b ≡ true
 had_it true e = refl
 had_it false e = absurd (cc e)
+
+either_true : (a b : Bool) → b ≡ true → (a || b) ≡ true
+either_true true b e = refl
+either_true false b e = e
+
+one_passes : (b : Bool) (p q : CfgOption → Bool) (k : CfgOption) (ks : List CfgOption) → p k ≡ b → ((x : CfgOption) → p x ≡ true → q x ≡ true) → (list_any p ks ≡ true → list_any q ks ≡ true)
+    → (b || list_any p ks) ≡ true → (q k || list_any q ks) ≡ true
+one_passes true p q k ks e pass more h = ap (λ x. x || list_any q ks) (pass k e)
+one_passes false p q k ks e pass more h = either_true (q k) (list_any q ks) (more h)
+
+-- what passes one test passes another
+pub any_other : (p q : CfgOption → Bool) (ks : List CfgOption) → ((x : CfgOption) → p x ≡ true → q x ≡ true) → list_any p ks ≡ true → list_any q ks ≡ true
+any_other p q [] pass h = absurd (cc h)
+any_other p q (k ∷ ks) pass h = one_passes (p k) p q k ks refl pass (any_other p q ks pass) h
+
+-- the same option, the other way round
+pub turned : (a b : List ℕ) (v w : Option (List ℕ)) → (same_text a b && same_value v w) ≡ true → (same_text b a && same_value w v) ≡ true
+turned a b v w e =
+    let names : a ≡ b = (bytes_eq-Decides a b).0 (first_true (same_text a b) (same_value v w) e) in
+    let values : v ≡ w = value_is v w (second_true (same_text a b) (same_value v w) e) in
+    ap (λ x. same_text b x && same_value w v) names
+    ∙ ap (λ x. same_text b b && same_value w x) values
+    ∙ sym (ap (λ x. same_text x b && same_value w w) names)
+    ∙ ap (λ x. same_text a b && same_value w x) (sym values)
+    ∙ ap (λ x. same_text a b && same_value x v) (sym values)
+    ∙ ap (λ x. same_text a b && same_value v x) values
+    ∙ e

@@ -12,10 +12,10 @@ use Rattle.textual_scope.specs.Conditions.{is_option_name, option_in}
 use Rattle.cfg_options.specs.Lists.{value_in}
 use Rattle.cfg_options.specs.Strings.{string_text}
 
-abbrev named : Ident → Forest → Option (Ident × Forest)
+abbrev pub named : Ident → Forest → Option (Ident × Forest)
 named name rest = Some (name, rest)
 
-abbrev valued : List ℕ → List ℕ → Option (List ℕ × Option (List ℕ))
+abbrev pub valued : List ℕ → List ℕ → Option (List ℕ × Option (List ℕ))
 valued name value = Some (name, Some value)
 
 ident_first : (f : Forest) (name : Ident) (rest : Forest) → first_ident f ≡ named name rest → f ≡ leaf (as_leaf.Ident name) rest
