@@ -14,7 +14,8 @@ same_value _ _ = false
 
 -- an option has this name and value
 abbrev pub is_option : List ℕ → Option (List ℕ) → CfgOption → Bool
-is_option name value o = same_text o.name name && same_value (option_map (λ v. v.items) o.value) value
+is_option name value o =
+    same_text o.name name && same_value (option_map (λ v. v.items) o.value) value
 
 -- the options that are set
 unfoldable pub options_of : CfgOptions → Options

@@ -34,17 +34,19 @@ impl CfgOptions {
 
     /// Whether an option is set.
     pub(crate) fn has(&self, option: &CfgOption) -> bool
-        ensures { result ≡ options_of self.now option.now.name (option_map (λ v. v.items) option.now.value) }
+        ensures { result ≡ options_of self.now option.now.name
+            (option_map (λ v. v.items) option.now.value) }
     {
         self.set.contains(option)
     }
 
     // The option is set from now on.
     pub(crate) fn add(&mut self, option: CfgOption) -> Result<(), AllocError>
-        ensures ok { OnOk result ((name : List ℕ) (value : Option (List ℕ)) → options_of self.new name value
+        ensures ok { OnOk result ((name : List ℕ) (value : Option (List ℕ)) →
+            options_of self.new name value
             ≡ (is_option name value option || options_of self.old name value)) }
-        ensures err { OnErr result ((name : List ℕ) (value : Option (List ℕ)) → options_of self.new name value
-            ≡ options_of self.old name value) }
+        ensures err { OnErr result ((name : List ℕ) (value : Option (List ℕ)) →
+            options_of self.new name value ≡ options_of self.old name value) }
     {
         let _ = self.set.insert(option)?;
         Ok(())
