@@ -1,6 +1,6 @@
 -- Worked examples of strings and of attributes that are not read, by computation.
 use Rattle.std.proofs.Common.{◌≡◌, ℕ, Bool, true, false, ◌&&◌, List, [], ◌∷◌, ◌++◌, Option, Some, None, codes, refl}
-use Rattle.std.specs.Prelude.{nat_eq}
+use Rattle.std.specs.Prelude.{encode_utf8}
 use Prim.Native.String.{String}
 use Rattle.tt_data.specs.Forest.{Forest, empty, leaf, group}
 use Rattle.tt_data.specs.Spans.{no_span}
@@ -13,7 +13,6 @@ use Rattle.tt_data.specs.declared.leaf.LitKind.{LitKind}
 use Rattle.tt_data.specs.declared.leaf.LitKind.TheVariants.{ByteStr, CStr, Integer, Str, StrRaw}
 use Rattle.tt_data.specs.declared.leaf.Spacing.TheVariants.{Alone}
 use Rattle.tt_data.specs.declared.span.Span.{Span}
-use Rattle.small_grammar.specs.Text.{same_text}
 use Rattle.textual_scope.specs.Conditions.{Options}
 use Rattle.cfg_options.specs.Misread.{misread}
 use Rattle.cfg_options.specs.Strings.{string_text}
@@ -41,7 +40,7 @@ no_byte_above = refl
 one_digit : str "\\x4" ≡ None
 one_digit = refl
 
-characters : str "\\u{41}\\u{e9}\\u{1_F_600_}" ≡ Some (65 ∷ 195 ∷ 169 ∷ 240 ∷ 159 ∷ 152 ∷ 128 ∷ [])
+characters : str "\\u{41}\\u{e9}\\u{1_F_600_}" ≡ Some (encode_utf8 65 ++ (encode_utf8 233 ++ (encode_utf8 128512 ++ [])))
 characters = refl
 
 seven_digits : str "\\u{0000041}" ≡ None
