@@ -66,6 +66,16 @@ no_empty_predicate = refl
 not_is_a_name : value "not" ≡ Some false
 not_is_a_name = refl
 
+-- a reserved word is no option, and without an edition a word of later ones is one
+reserved_words : value "fn" ≡ None
+reserved_words = refl
+
+words_of_later_editions : value "async" ≡ Some false
+words_of_later_editions = refl
+
+a_constant_has_no_value : value "true = 'linux" ≡ None
+a_constant_has_no_value = refl
+
 no_paths : value "a : : b" ≡ None
 no_paths = refl
 
@@ -114,6 +124,9 @@ short_items = refl
 
 calls : (whole "m ! { }" && whole "m ! ( ) ;") ≡ true
 calls = refl
+
+calls_by_paths : (whole "a : : b ! { }" && whole ": : a : : b ! ( ) ;") ≡ true
+calls_by_paths = refl
 
 -- what is in angle brackets is no body, also behind an arrow
 no_body_in_angles : whole "fn f < F : Fn ( ) - > A , const N : usize = { 1 }" ≡ false

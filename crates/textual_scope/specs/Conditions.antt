@@ -6,12 +6,15 @@ use Prim.Native.String.{String}
 use Rattle.tt_data.specs.Forest.{Forest, empty, leaf, group, joined, size}
 use Rattle.tt_data.specs.Literals.{LiteralParts}
 use Rattle.tt_data.specs.declared.delimiter.DelimiterKind.TheVariants.{Parenthesis, Brace, Bracket}
+use Rattle.tt_data.specs.declared.leaf.Ident.{Ident}
 use Rattle.tt_data.specs.declared.leaf.Leaf.{Leaf}
 use Rattle.tt_data.specs.declared.leaf.Leaf.TheVariants as as_leaf
-use Rattle.tt.specs.FirstTrees.{first_group}
+use Rattle.tt.specs.FirstTrees.{first_group, first_ident, first_punct}
 use Rattle.bridge.specs.Text.{is_char, is_punct, same_kind}
-use Rattle.small_grammar.specs.Text.{is_word, is_empty, ◌>>=◌, ◌>>◌}
-use Rattle.expander_model.specs.Calls.{Marked, call, marked, unmarked}
+use Rattle.small_grammar.specs.Text.{is_word, is_empty, is_raw_name, same_text, ◌>>=◌, ◌>>◌}
+use Rattle.small_grammar.specs.Tokens.{is_among, path_words, reserved, words}
+use Rattle.expander_model.specs.Calls.{is_colons}
+use Rattle.expander_model.specs.CallSteps.{bare_call}
 use Rattle.expander_model.specs.Definitions.{Definition, after_attributes, after_pub, after_word, definition_of, is_semicolon, or_else}
 
 -- which options are set: a name alone, or a name with a value
@@ -27,13 +30,27 @@ cut_at_commas (leaf l rest) begun =
     else cut_at_commas rest (joined begun (leaf l empty))
 cut_at_commas (group d inner rest) begun = cut_at_commas rest (joined begun (group d inner empty))
 
--- what is between commas in the parentheses after this word, if nothing else is there
-abbrev pub listed : String → Forest → Option (List Forest)
-listed word f = do
-  after ← after_word (codes word) f
-  (d, inner, rest) ← first_group after
+-- what follows the name with this text, raw or not, at the beginning
+abbrev pub after_name : List ℕ → Forest → Option Forest
+after_name text f = do
+  (name, rest) ← first_ident f
+  same_text name.sym text
+  Some rest
+
+-- what is in parentheses that are all of the trees
+abbrev pub parenthesized : Forest → Option Forest
+parenthesized f = do
+  (d, inner, rest) ← first_group f
   same_kind d.kind Parenthesis && is_empty rest
-  Some (cut_at_commas inner empty)
+  Some inner
+
+-- what is in the parentheses after the name with this text, if nothing else is there
+abbrev pub list_behind : List ℕ → Forest → Option Forest
+list_behind text f = after_name text f >>= parenthesized
+
+-- what is there between commas
+abbrev pub listed : String → Forest → Option (List Forest)
+listed word f = option_map (λ inner. cut_at_commas inner empty) (list_behind (codes word) f)
 
 -- the values of all of these, if each has one
 abbrev pub each_value : (Forest → Option Bool) → List Forest → Option (List Bool)
@@ -52,18 +69,42 @@ abbrev pub negated : List Bool → Option Bool
 negated (b ∷ []) = Some (not b)
 negated _ = None
 
--- `options` are set; `text` is what a string literal stands for, and none of another literal
-module _ (options : Options) (text : LiteralParts → Option (List ℕ)) where
-  -- `true`, `false`, the name of an option, or a name, `=` and a string
-  abbrev pub option_value : Forest → Option Bool
-  option_value (leaf (as_leaf.Ident name) empty) =
-      Some (is_word "true" name || (not (is_word "false" name) && options name.sym None))
-  option_value
+-- the words that later editions reserved: without an edition they are names
+abbrev pub later_reserved : List (List ℕ)
+later_reserved = words (codes "async await dyn try gen")
+
+-- a name that an option can have: any but `_`, raw or not reserved
+abbrev pub is_option_name : Ident → Bool
+is_option_name name =
+    not (same_text name.sym (codes "_"))
+    && (if is_raw_name name then not (is_among path_words name.sym)
+    else not (is_among reserved name.sym) || is_among later_reserved name.sym)
+
+-- an option as it is written, where `text` is what a string literal stands for: a name, or a name,
+-- `=` and a string
+module _ (text : LiteralParts → Option (List ℕ)) where
+  abbrev pub option_in : Forest → Option (List ℕ × Option (List ℕ))
+  option_in (leaf (as_leaf.Ident name) empty) = is_option_name name >> Some (name.sym, None)
+  option_in
       (leaf (as_leaf.Ident name) (leaf (as_leaf.Punct p) (leaf (as_leaf.Literal l) empty))) = do
+        is_option_name name
         is_char "=" p
         value ← text l
-        Some (options name.sym (Some value))
-  option_value _ = None
+        Some (name.sym, Some value)
+  option_in _ = None
+
+-- `true` or `false`
+abbrev pub constant : Forest → Option Bool
+constant (leaf (as_leaf.Ident name) empty) =
+    if is_word "true" name then Some true else is_word "false" name >> Some false
+constant _ = None
+
+-- `options` are set; `text` is what a string literal stands for, and none of another literal
+module _ (options : Options) (text : LiteralParts → Option (List ℕ)) where
+  -- a constant, or whether an option is set
+  abbrev pub option_value : Forest → Option Bool
+  option_value p =
+      or_else (constant p) (option_map (λ option. options option.0 option.1) (option_in text p))
 
   -- the value of a predicate, or none if it is no predicate; `n` bounds how deep lists nest
   abbrev pub value_within : ℕ → Forest → Option Bool
@@ -155,18 +196,44 @@ is_short f =
     begins_with ("use" ∷ "static" ∷ "type" ∷ "const" ∷ "extern" ∷ []) f
     && ends_in_semicolon f
 
--- a call and nothing else, or `;`
-abbrev pub is_whole_call : Marked → Bool
-is_whole_call (call path name bang d a rest) =
-    is_empty (unmarked rest) || is_semicolon (unmarked rest)
-is_whole_call _ = false
+-- what follows a `::` at the beginning
+abbrev pub behind_colons : Forest → Option Forest
+behind_colons f = do
+  (first, after_first) ← first_punct f
+  (second, rest) ← first_punct after_first
+  is_colons first second
+  Some rest
+
+-- what follows the names at the beginning that have a `::` after them
+abbrev pub after_path : Forest → Forest
+after_path
+    (leaf (as_leaf.Ident name) (leaf (as_leaf.Punct first) (leaf (as_leaf.Punct second) rest))) =
+    if is_colons first second then after_path rest
+    else leaf (as_leaf.Ident name) (leaf (as_leaf.Punct first) (leaf (as_leaf.Punct second) rest))
+after_path f = f
+
+-- what follows a call with which the trees begin
+abbrev pub after_call : Forest → Option Forest
+after_call f = option_map (λ call. call.rest) (bare_call f)
+
+-- nothing, or `;`
+abbrev pub is_end : Forest → Bool
+is_end f = is_empty f || is_semicolon f
+
+-- a call behind the names of a path, and nothing else, or `;`
+abbrev pub is_path_call : Forest → Bool
+is_path_call f = unwrap_or (option_map is_end (after_call (after_path f))) false
+
+-- such a call, or one with a `::` before it
+abbrev pub is_whole_call : Forest → Bool
+is_whole_call f = is_path_call (unwrap_or (behind_colons f) f)
 
 -- the piece is one item and no more: an item that a brace group cuts in two is none
 abbrev pub is_whole_item : Forest → Bool
 is_whole_item piece =
     let rest : Forest = after_attributes piece in
     let f : Forest = unwrap_or (after_pub rest) rest in
-    is_bodied f || (is_extern_block f || (is_short f || is_whole_call (marked f)))
+    is_bodied f || (is_extern_block f || (is_short f || is_whole_call f))
 
 -- ---- what is left out
 

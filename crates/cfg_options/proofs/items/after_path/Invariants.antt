@@ -1,0 +1,10 @@
+use Rattle.std.proofs.Common.{◌≡◌}
+use Rattle.tt_data.specs.Forest.{size}
+use Rattle.textual_scope.specs.Conditions.{after_path}
+use Rattle.cfg_options.proofs.items.after_path.Given as goal
+
+abbrev pub invariant-loop-after : goal.invariant-loop-after
+invariant-loop-after l = after_path l.trees ≡ after_path l.rest
+
+abbrev pub decreases-loop-after : goal.decreases-loop-after
+decreases-loop-after l = size l.rest

@@ -1,0 +1,11 @@
+-- what the public contracts rest on
+pub mod Strings
+pub mod Options
+pub mod Words
+pub mod Misread
+-- what the functions inside the crate promise each other
+pub mod Lists
+pub mod Parts
+pub mod OpenLists
+pub mod Attributes
+pub mod StringSteps
