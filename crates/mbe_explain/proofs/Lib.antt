@@ -1,0 +1,10 @@
+pub mod ListLemmas
+pub mod ReachLemmas
+pub mod KeptSortLemmas
+pub mod ClashOnceLemmas
+pub mod TakenLemmas
+pub mod StopLemmas
+pub mod SurveyLemmas
+pub mod FoundLemmas
+pub mod SearchLemmas
+pub mod LevelLemmas

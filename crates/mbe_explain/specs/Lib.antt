@@ -1,0 +1,8 @@
+-- where partial readings stop, and what they want there
+pub mod Stops
+-- what the code has for what is wanted
+pub mod Wants
+-- what the functions inside promise each other
+pub mod Levels
+pub mod Surveys
+pub mod Searches
