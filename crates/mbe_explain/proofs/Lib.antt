@@ -5,6 +5,7 @@ pub mod ClashOnceLemmas
 pub mod TakenLemmas
 pub mod StopLemmas
 pub mod SurveyLemmas
+pub mod CountLemmas
 pub mod FoundLemmas
-pub mod SearchLemmas
 pub mod LevelLemmas
+pub mod ClosingLemmas

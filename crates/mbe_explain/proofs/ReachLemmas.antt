@@ -50,6 +50,10 @@ module _ (gr : Grammar) where
     pub same : r.place_of x ≡ r.place_of s
     pub ends : r.has_used_up x ≡ true → IsAmong (let k : Sort = None in k) ks
 
+  -- what waits after at most n moves
+  abbrev waits_within : ℕ → r.State → List (Waiting r.Move r.State)
+  waits_within n s = gather (r.next gr) (λ t. when (r.has_used_up t) (ended [])) (settled_one r.takes r.is_fragment) n s
+
   -- a path with one more move
   pub one-more : (s t : r.State) (ms : List r.Move) (c : r.Choice) → IsPath (r.next gr) s ms t → IsAmong c (r.next gr t) →
       IsPath (r.next gr) s (ms ++ (c.0 ∷ [])) c.1
@@ -78,11 +82,11 @@ module _ (gr : Grammar) where
     at-end s h k false e a = absurd a
 
     gathered : (n : ℕ) (s : r.State) → Reaches gr pattern argument s → (k : Sort) →
-        IsAmong k (sorts (gather (r.next gr) (λ t. when (r.has_used_up t) (ended [])) (settled_one r.takes r.is_fragment) n s)) → IsReached k
+        IsAmong k (sorts (waits_within n s)) → IsReached k
     gathered zero s h k a = at-end s h k (r.has_used_up s) refl a
     gathered (suc n) s h k a =
         let base : List (Waiting r.Move r.State) = when (r.has_used_up s) (ended []) in
-        let more = λ (c : r.Choice). settled_one r.takes r.is_fragment s c (gather (r.next gr) (λ t. when (r.has_used_up t) (ended [])) (settled_one r.takes r.is_fragment) n c.1) in
+        let more = λ (c : r.Choice). settled_one r.takes r.is_fragment s c (waits_within n c.1) in
         elim (among-append k (sorts base) (sorts (flat_map more (r.next gr s))) (subst (IsAmong k) (sorts-append base (flat_map more (r.next gr s))) a)) [
           | inl b ↦ at-end s h k (r.has_used_up s) refl b
           | inr b ↦
@@ -90,14 +94,11 @@ module _ (gr : Grammar) where
               one c.0 (gathered n c.0.1 (reaches-next s c.0 h c.1) k) (reaches-next s c.0 h c.1) (r.takes c.0.0) c.2
         ]
       where
-        abbrev rest : r.State → List (Waiting r.Move r.State)
-        rest t = gather (r.next gr) (λ t. when (r.has_used_up t) (ended [])) (settled_one r.takes r.is_fragment) n t
-
-        one : (c : r.Choice) → (IsAmong k (sorts (rest c.1)) → IsReached k) → Reaches gr pattern argument c.1 → (b : Bool) →
-            IsAmong k (sorts (elim b [ true ↦ pending (c.0 ∷ []) (r.is_fragment c.0) c.1 ∷ [] | false ↦ map (prefixed (c.0 ∷ [])) (rest c.1) ])) → IsReached k
+        one : (c : r.Choice) → (IsAmong k (sorts (waits_within n c.1)) → IsReached k) → Reaches gr pattern argument c.1 → (b : Bool) →
+            IsAmong k (sorts (elim b [ true ↦ pending (c.0 ∷ []) (r.is_fragment c.0) c.1 ∷ [] | false ↦ map (prefixed (c.0 ∷ [])) (waits_within n c.1) ])) → IsReached k
         one c f g true (inl i) = subst IsReached i g
         one c f g true (inr a) = absurd a
-        one c f g false a = f (subst (IsAmong k) (sorts-prefixed (c.0 ∷ []) (rest c.1)) a)
+        one c f g false a = f (subst (IsAmong k) (sorts-prefixed (c.0 ∷ []) (waits_within n c.1)) a)
 
     -- what waits after a state that is reached is reached
     pub settled-reached : (s : r.State) → Reaches gr pattern argument s → (k : Sort) → IsAmong k (sorts (settled_at gr s)) → IsReached k

@@ -3,6 +3,7 @@ use Rattle.std.proofs.Common.{◌≡◌, ◌↔◌, ◌⊎◌, inl, inr, refl, s
 use Rattle.std.specs.List.{flat_map}
 use Rattle.tt_data.specs.Forest.{Forest}
 use Rattle.mbe_rules.specs.Items.{Items, has_empty_round}
+use Rattle.mbe_rules.specs.Text.{is_nil}
 use Rattle.mbe_matcher.specs.Grammar.{Grammar}
 use Rattle.mbe_matcher.specs.Paths.{IsAmong, IsPath, clash, has_clash, only, takings_at}
 use Rattle.mbe_matcher.specs.Places.{place_after}
@@ -10,29 +11,33 @@ use Rattle.mbe_matcher.specs.Readings as r
 use Rattle.mbe_matcher.specs.Settled.{IsKept, IsSound, IsSoundAt, sort_of, sorts}
 use Rattle.mbe_matcher.specs.Threads as t
 use Rattle.mbe_matcher.specs.Units as u
-use Rattle.mbe_matcher.specs.Waiting.{Each, Good, IsFrom, IsTo, advanced_by, ended, finished, heads, pending, prefixed, settled_at}
+use Rattle.mbe_matcher.specs.Waiting.{Each, Good, IsFrom, IsTo, advanced_by, ended, finished, heads, pending, prefixed, settled_at, unless}
 use Rattle.mbe_matcher.specs.declared.position.Consumed.{Consumed}
-use Rattle.mbe_matcher.specs.declared.step.Waiting as d
-use Rattle.mbe_matcher.specs.declared.step.Waiting.TheVariants.{Ended, Pending}
 use Rattle.mbe_matcher.proofs.ClashLemmas.{clash-from}
 use Rattle.mbe_matcher.proofs.GatherLemmas.{none-among}
 use Rattle.mbe_matcher.proofs.KeptLemmas.{sorts-prefixed}
-use Rattle.mbe_matcher.proofs.MatchingLemmas.{enough-moves, good-start}
+use Rattle.mbe_matcher.proofs.MatchingLemmas.{enough-moves, good-start, outcome_at, outcome_later}
 use Rattle.mbe_matcher.proofs.MoveLemmas.{falls}
 use Rattle.mbe_matcher.proofs.FallingLemmas.{bound}
 use Rattle.mbe_matcher.proofs.PathListLemmas.{is_path, listed, path-length}
-use Rattle.mbe_matcher.proofs.SoundLemmas.{AllFrom, AllTo, from-advanced-at, one_place-at, sound-start}
-use Rattle.mbe_matcher.proofs.TheLoopLemmas.{Held, clash-none, ended-only, start-held, turn}
+use Rattle.mbe_matcher.proofs.SoundLemmas.{AllFrom, AllTo, Sound, advance-at, from-advanced-at, one_place-at, over-at, sound-start}
+use Rattle.mbe_matcher.proofs.TheLoopLemmas.{Held, start-held}
+use Rattle.mbe_explain.specs.Surveys.{comes_if, comes_of, first_or, head_taken, takings_if, takings_of, waits_if, waits_of}
+use Rattle.mbe_explain.specs.declared.step.Step.{Step}
 use Rattle.mbe_explain.specs.Stops.{HasTwoReadings, IsFirstClash, IsFurthest, IsUnreadAt, Reaches}
 use Rattle.mbe_explain.proofs.KeptSortLemmas.{all-are-kept, kept-of-all}
 use Rattle.mbe_explain.proofs.ListLemmas.{in-flat_map, of-flat_map, sorts-flat_map}
 use Rattle.mbe_explain.proofs.ReachLemmas.{IsReached, Passes, Sort, leads, left_of, none-left, settled-reached}
 use Rattle.mbe_explain.proofs.TakenLemmas.{IsBelow, IsThere, clashes-advanced, clashes-kept, none-before, prefixed-taken, taken-begun, taken-here, taken_by}
 
-same-heads : (p : u.Place) (ws : List d.Waiting) → flat_map heads (t.waits p ws) ≡ flat_map t.takings_of ws
+same-heads : (p : u.Place) (ss : List Step) → flat_map heads (waits_of p ss) ≡ flat_map (λ (s : Step). takings_if s.taken) ss
 same-heads p [] = refl
-same-heads p (Ended ms ∷ ws) = same-heads p ws
-same-heads p (Pending h k ∷ ws) = ap (λ x. t.is_trees (Some k) ∷ x) (same-heads p ws)
+same-heads p (s ∷ ss) = go s.taken (same-heads p ss)
+  where
+    go : (o : Option Consumed) → flat_map heads (waits_of p ss) ≡ flat_map (λ (s : Step). takings_if s.taken) ss →
+        flat_map heads (waits_if s.thread p o ∷ waits_of p ss) ≡ takings_if o ++ flat_map (λ (s : Step). takings_if s.taken) ss
+    go None e = e
+    go (Some k) e = ap (λ x. t.is_trees (Some k) ∷ x) e
 
 module _ (gr : Grammar) (pattern : Items) (argument : Forest) where
   -- a path that waits has come to a state at this position, or to the end
@@ -45,7 +50,7 @@ module _ (gr : Grammar) (pattern : Items) (argument : Forest) where
     pub not_further : u.left p ≤ left_of x
     pub ends : r.has_used_up x ≡ true → IsAmong (let k : Sort = None in k) ks
 
-  abbrev next_of : List t.Waits → List t.Waits
+  abbrev pub next_of : List t.Waits → List t.Waits
   next_of es = flat_map (advanced_by (settled_at gr)) es
 
   -- the partial readings that have come to a position
@@ -187,26 +192,45 @@ module _ (gr : Grammar) (pattern : Items) (argument : Forest) where
   there q s (pending ms b x ∷ ws) h = ((h.0.0.0, h.0.2), there q s ws h.1)
 
   -- the paths are those of their threads at the next position
-  moved : (b : ℕ) (p s : u.Place) (ws : List d.Waiting) → AllTo gr pattern b s (t.waits p ws) → t.waits p ws ≡ t.waits_at s ws
+  moved : (b : ℕ) (p s : u.Place) (ss : List Step) → AllTo gr pattern b s (waits_of p ss) → waits_of p ss ≡ comes_of s ss
   moved b p s [] a = refl
-  moved b p s (Ended ms ∷ ws) a = ap (λ x. ended (t.moves_of ms) ∷ x) (moved b p s ws a.1)
-  moved b p s (Pending h k ∷ ws) a =
-      let e : t.state_of h (place_after p (Some k)) ≡ t.state_of h s = ap (t.state_of h) a.0.2 in
-      let i = moved b p s ws a.1 in
-      let f = ap (λ x. pending (t.moves_of h.moves) (t.is_trees (Some k)) x) e in cc
+  moved b p s (v ∷ ss) a = go v.taken a.0 (moved b p s ss a.1)
+    where
+      go : (o : Option Consumed) → IsTo (Sound gr pattern) left_of r.place_of b s (waits_if v.thread p o) → waits_of p ss ≡ comes_of s ss →
+          waits_if v.thread p o ∷ waits_of p ss ≡ comes_if v.thread s o ∷ comes_of s ss
+      go None h e = ap (λ x. ended (t.moves_of v.thread.moves) ∷ x) e
+      go (Some k) h e =
+          let f : t.state_of v.thread (place_after p (Some k)) ≡ t.state_of v.thread s = ap (t.state_of v.thread) h.2 in
+          ap (λ x. pending (t.moves_of v.thread.moves) (t.is_trees (Some k)) x ∷ waits_of p ss) f
+          ∙ ap (λ x. pending (t.moves_of v.thread.moves) (t.is_trees (Some k)) (t.state_of v.thread s) ∷ x) e
 
-  goal-of : (b : ℕ) (p s : u.Place) (ws : List d.Waiting) (k : Consumed) → AllTo gr pattern b s (t.waits p ws) → t.head_taken ws ≡ Some k →
-      place_after p (Some k) ≡ s
+  -- where the first one leads that has consumed something
+  goal-of : (b : ℕ) (p s : u.Place) (ss : List Step) (k : Consumed) → AllTo gr pattern b s (waits_of p ss) → head_taken ss ≡ Some k →
+      (place_after p (Some k) ≡ s) × (u.left s < b)
   goal-of b p s [] k a e = absurd (cc e)
-  goal-of b p s (Ended ms ∷ ws) k a e = goal-of b p s ws k a.1 e
-  goal-of b p s (Pending h j ∷ ws) k a e =
-      let i : j ≡ k = cc in
-      ap (λ x. place_after p (Some x)) (sym i) ∙ a.0.2
+  goal-of b p s (v ∷ ss) k a e = go v.taken a.0 (goal-of b p s ss k a.1) e
+    where
+      go : (o : Option Consumed) → IsTo (Sound gr pattern) left_of r.place_of b s (waits_if v.thread p o) →
+          (head_taken ss ≡ Some k → (place_after p (Some k) ≡ s) × (u.left s < b)) → first_or o (head_taken ss) ≡ Some k → (place_after p (Some k) ≡ s) × (u.left s < b)
+      go None h rec i = rec i
+      go (Some j) h rec i =
+          let same : j ≡ k = cc in
+          (ap (λ x. place_after p (Some x)) (sym same) ∙ h.2, subst (λ x. u.left x < b) h.2 h.1)
 
-  some-pending : (p : u.Place) (ws : List d.Waiting) (k : Consumed) → t.head_taken ws ≡ Some k → (x : Bool × r.State) × IsAmong (Some x) (sorts (t.waits p ws))
+  some-pending : (p : u.Place) (ss : List Step) (k : Consumed) → head_taken ss ≡ Some k → (x : Bool × r.State) × IsAmong (Some x) (sorts (waits_of p ss))
   some-pending p [] k e = absurd (cc e)
-  some-pending p (Ended ms ∷ ws) k e = let o = some-pending p ws k e in (o.0, inr o.1)
-  some-pending p (Pending h j ∷ ws) k e = ((t.is_trees (Some j), t.state_of h (place_after p (Some j))), inl refl)
+  some-pending p (v ∷ ss) k e = go v.taken (some-pending p ss k) e
+    where
+      go : (o : Option Consumed) → (head_taken ss ≡ Some k → (x : Bool × r.State) × IsAmong (Some x) (sorts (waits_of p ss))) → first_or o (head_taken ss) ≡ Some k →
+          (x : Bool × r.State) × IsAmong (Some x) (sorts (waits_if v.thread p o ∷ waits_of p ss))
+      go None rec i = let o = rec i in (o.0, inr o.1)
+      go (Some j) rec i = ((t.is_trees (Some j), t.state_of v.thread (place_after p (Some j))), inl refl)
+
+  -- those that come are states of the matcher
+  sound-to : (b : ℕ) (s : u.Place) (ws : List t.Waits) → AllTo gr pattern b s ws → Each (IsSoundAt pattern) ws
+  sound-to b s [] a = tt
+  sound-to b s (ended ms ∷ ws) a = (tt, sound-to b s ws a.1)
+  sound-to b s (pending ms c x ∷ ws) a = (a.0.0, sound-to b s ws a.1)
 
   entries : (s : u.Place) (ws : List t.Waits) → ((k : Sort) → IsAmong k (sorts ws) → IsReached gr pattern argument k) → Each (IsThere gr (r.room pattern) s) ws →
       Each (IsEntry s) ws
@@ -224,64 +248,96 @@ module _ (gr : Grammar) (pattern : Items) (argument : Forest) where
   there-of s (w ∷ ws) k (inr a) h = there-of s ws k a h.1
 
   -- without a clash, all that waits comes to the next position
-  pub record Next (p s : u.Place) (ws : List d.Waiting) : Type 0 where
-    pub entered : Entered s (t.waits_at s ws)
+  pub record Next (p s : u.Place) (ss : List Step) : Type 0 where
+    pub entered : Entered s (comes_of s ss)
     pub lower : u.left s < u.left p
 
-  pub next-entered : (p s : u.Place) (ws : List d.Waiting) (k : Consumed) → Waited p (t.waits p ws) → clash (flat_map t.takings_of ws) ≡ false →
-      t.head_taken ws ≡ Some k → s ≡ place_after p (Some k) → Next p s ws
-  next-entered p s ws k h c e i =
-      let n : clash (flat_map heads (t.waits p ws)) ≡ false = ap clash (same-heads p ws) ∙ c in
-      let o = one_place-at gr pattern p (t.waits p ws) h.held.here n in
-      let f : o.0 ≡ s = sym (goal-of (u.left p) p o.0 ws k o.1 e) ∙ sym i in
-      let a : AllTo gr pattern (u.left p) s (t.waits p ws) = subst (λ x. AllTo gr pattern (u.left p) x (t.waits p ws)) f o.1 in
-      let m = moved (u.left p) p s ws a in
-      let turned = turn gr pattern argument p ws k h.held (sym c) (sym e) s i in
-      let th = there (u.left p) s (t.waits p ws) a in
-      let next = below s (next_of (t.waits p ws)) (from-advanced-at gr pattern (u.left p) s (t.waits p ws) a) in
+  pub next-entered : (p s : u.Place) (ss : List Step) (k : Consumed) → Waited p (waits_of p ss) → clash (takings_of ss) ≡ false →
+      head_taken ss ≡ Some k → s ≡ place_after p (Some k) → Next p s ss
+  next-entered p s ss k h c e i =
+      let ws = waits_of p ss in
+      let N = r.room pattern in
+      let n : clash (flat_map heads ws) ≡ false = ap clash (same-heads p ss) ∙ c in
+      let o = one_place-at gr pattern p ws h.held.here n in
+      let f : o.0 ≡ s = sym (goal-of (u.left p) p o.0 ss k o.1 e).0 ∙ sym i in
+      let a : AllTo gr pattern (u.left p) s ws = subst (λ x. AllTo gr pattern (u.left p) x ws) f o.1 in
+      let lower = (goal-of (u.left p) p s ss k a e).1 in
+      let m = moved (u.left p) p s ss a in
+      let th = there (u.left p) s ws a in
+      let from = from-advanced-at gr pattern (u.left p) s ws a in
       record {
         entered = record {
-          sound = turned.good;
-          held = turned.held (next_of (t.waits_at s ws)) refl;
+          sound = subst (Each (IsSoundAt pattern)) m (sound-to (u.left p) s ws a);
+          held = record {
+            same = ap (λ x. outcome_at gr N (next_of x)) (sym m) ∙ sym (advance-at gr pattern (u.left p) s ws a n) ∙ h.held.same;
+            here = subst (λ x. AllFrom gr pattern s (next_of x)) m from;
+          };
           clashes = λ q. h.clashes q
-              ∙ clashes-advanced gr (r.room pattern) q (u.left p) s (t.waits p ws) turned.lower (below p (t.waits p ws) h.held.here) th next n
-              ∙ ap (λ x. clash (takings_at q (flat_map (taken_by gr (r.room pattern) (u.left s)) (next_of x)))) m;
-          reached = subst (Each (IsEntry s)) m (entries s (t.waits p ws) h.reached th);
+              ∙ clashes-advanced gr N q (u.left p) s ws lower (below p ws h.held.here) th (below s (next_of ws) from) n
+              ∙ ap (λ x. clash (takings_at q (flat_map (taken_by gr N (u.left s)) (next_of x)))) m;
+          reached = subst (Each (IsEntry s)) m (entries s ws h.reached th);
           ahead = λ x j. elim (h.ahead x j) [
-            | inl b ↦ let l = b.not_further in let lower = turned.lower in inl (omega (arith, l, lower))
+            | inl b ↦ let l = b.not_further in inl (omega (arith, l, lower))
             | inr v ↦ inr (subst (λ y. Passes gr x (sorts y)) m v)
           ];
-          some = let v = some-pending p ws k e in (v.0.1, h.reached (Some v.0) v.1, there-of s (t.waits p ws) v.0 v.1 th);
+          some = let v = some-pending p ss k e in (v.0.1, h.reached (Some v.0) v.1, there-of s ws v.0 v.1 th);
         };
-        lower = turned.lower;
+        lower = lower;
       }
 
   -- ---- stops
 
-  pub clash-stop : (p : u.Place) (ws : List d.Waiting) → Waited p (t.waits p ws) → clash (flat_map t.takings_of ws) ≡ true → IsFirstClash gr pattern argument p
-  clash-stop p ws h c =
-      let b = below p (t.waits p ws) h.held.here in
+  pub clash-stop : (p : u.Place) (ss : List Step) → Waited p (waits_of p ss) → clash (takings_of ss) ≡ true → IsFirstClash gr pattern argument p
+  clash-stop p ss h c =
+      let ws = waits_of p ss in
+      let b = below p ws h.held.here in
       record {
         reached = h.some;
-        clashes = h.clashes (u.left p) ∙ ap clash (taken-here gr (r.room pattern) (u.left p) (t.waits p ws) b ∙ same-heads p ws) ∙ c;
-        first = λ q l. h.clashes q ∙ ap clash (none-before gr (r.room pattern) q (u.left p) (t.waits p ws) l b);
+        clashes = h.clashes (u.left p) ∙ ap clash (taken-here gr (r.room pattern) (u.left p) ws b ∙ same-heads p ss) ∙ c;
+        first = λ q l. h.clashes q ∙ ap clash (none-before gr (r.room pattern) q (u.left p) ws l b);
       }
 
-  nothing-taken : (q : ℕ) (p : u.Place) (ws : List d.Waiting) → t.head_taken ws ≡ None → flat_map (taken_by gr (r.room pattern) q) (t.waits p ws) ≡ []
-  nothing-taken q p [] e = refl
-  nothing-taken q p (Ended ms ∷ ws) e = nothing-taken q p ws e
-  nothing-taken q p (Pending h k ∷ ws) e = absurd (cc e)
+  -- where a clash waits, no reading is the only one
+  pub clash-none : (p : u.Place) (ss : List Step) → Waited p (waits_of p ss) → clash (takings_of ss) ≡ true → None ≡ r.the_reading gr pattern argument
+  clash-none p ss h c = go (clash (flat_map heads (waits_of p ss))) (sym (ap clash (same-heads p ss) ∙ c)) ∙ h.held.same
+    where
+      go : (b : Bool) → true ≡ b → None ≡ unless b (outcome_later gr (r.room pattern) (waits_of p ss))
+      go true e = refl
+      go false e = absurd (cc e)
 
-  -- where nothing more is consumed, no clash is anywhere
-  pub no-clash : (p : u.Place) (ws : List d.Waiting) → Waited p (t.waits p ws) → t.head_taken ws ≡ None → has_clash (r.takings gr pattern argument) ≡ false
-  no-clash p ws h e = go (has_clash (r.takings gr pattern argument)) refl
+  nothing-taken : (q : ℕ) (p : u.Place) (ss : List Step) → head_taken ss ≡ None → flat_map (taken_by gr (r.room pattern) q) (waits_of p ss) ≡ []
+  nothing-taken q p [] e = refl
+  nothing-taken q p (s ∷ ss) e = go s.taken (nothing-taken q p ss) e
+    where
+      go : (o : Option Consumed) → (head_taken ss ≡ None → flat_map (taken_by gr (r.room pattern) q) (waits_of p ss) ≡ []) → first_or o (head_taken ss) ≡ None →
+          flat_map (taken_by gr (r.room pattern) q) (waits_if s.thread p o ∷ waits_of p ss) ≡ []
+      go None rec i = rec i
+      go (Some k) rec i = absurd (cc i)
+
+  no-heads : (p : u.Place) (ss : List Step) → head_taken ss ≡ None → is_nil (flat_map heads (waits_of p ss)) ≡ true
+  no-heads p [] e = refl
+  no-heads p (s ∷ ss) e = go s.taken (no-heads p ss) e
+    where
+      go : (o : Option Consumed) → (head_taken ss ≡ None → is_nil (flat_map heads (waits_of p ss)) ≡ true) → first_or o (head_taken ss) ≡ None →
+          is_nil (flat_map heads (waits_if s.thread p o ∷ waits_of p ss)) ≡ true
+      go None rec i = rec i
+      go (Some k) rec i = absurd (cc i)
+
+  -- where nothing more is consumed, what has ended is the only reading, if it is one
+  pub ended-only : (p : u.Place) (ss : List Step) → Waited p (waits_of p ss) → head_taken ss ≡ None →
+      only (flat_map finished (waits_of p ss)) ≡ r.the_reading gr pattern argument
+  ended-only p ss h e = sym (over-at gr pattern (waits_of p ss) (no-heads p ss e)) ∙ h.held.same
+
+  -- and no clash is anywhere
+  pub no-clash : (p : u.Place) (ss : List Step) → Waited p (waits_of p ss) → head_taken ss ≡ None → has_clash (r.takings gr pattern argument) ≡ false
+  no-clash p ss h e = go (has_clash (r.takings gr pattern argument)) refl
     where
       go : (b : Bool) → has_clash (r.takings gr pattern argument) ≡ b → b ≡ false
       go false i = refl
       go true i =
           let c = clash-from (r.takings gr pattern argument) i in
           let n : clash (takings_at c.0 (r.takings gr pattern argument)) ≡ false =
-          h.clashes c.0 ∙ ap (λ x. clash (takings_at c.0 x)) (nothing-taken (u.left p) p ws e) in
+          h.clashes c.0 ∙ ap (λ x. clash (takings_at c.0 x)) (nothing-taken (u.left p) p ss e) in
           absurd (cc (c.1, n))
 
   -- where nothing waits, the argument is unread
@@ -306,17 +362,16 @@ module _ (gr : Grammar) (pattern : Items) (argument : Forest) where
       subst (IsAmong ms) none (listed (r.next gr) r.has_used_up (r.most_moves pattern argument) s x ms path used (omega (arith, l, m)))
 
   -- where more than one has ended, there are two readings
-  pub two-stop : has_empty_round pattern ≡ false → (p : u.Place) (a b : _) (ws : List d.Waiting) → Waited p (t.waits p (Ended a ∷ Ended b ∷ ws)) →
-      t.head_taken ws ≡ None → HasTwoReadings gr pattern argument
-  two-stop e p a b ws h n =
-      let clear = no-clash p (Ended a ∷ Ended b ∷ ws) h n in
-      let none : None ≡ r.the_reading gr pattern argument = ended-only gr pattern argument p (Ended a ∷ Ended b ∷ ws) h.held n in
+  pub two-stop : has_empty_round pattern ≡ false → (p : u.Place) (ss : List Step) → Waited p (waits_of p ss) → head_taken ss ≡ None →
+      IsAmong (let k : Sort = None in k) (sorts (waits_of p ss)) → None ≡ only (flat_map finished (waits_of p ss)) → HasTwoReadings gr pattern argument
+  two-stop e p ss h n one none =
+      let clear = no-clash p ss h n in
       let same : r.the_reading gr pattern argument ≡ only (r.readings gr pattern argument) =
       ap (λ x. if x then None else only (r.readings gr pattern argument)) clear in
-      go (r.readings gr pattern argument) refl (none ∙ same) clear
+      go (r.readings gr pattern argument) refl (none ∙ ended-only p ss h n ∙ same) clear
     where
       go : (all : List (List r.Move)) → r.readings gr pattern argument ≡ all → None ≡ only all → has_clash (r.takings gr pattern argument) ≡ false →
           HasTwoReadings gr pattern argument
-      go [] i o c = absurd (at-least-one e (h.reached None (inl refl)) i)
+      go [] i o c = absurd (at-least-one e (h.reached None one) i)
       go (x ∷ []) i o c = absurd (cc o)
       go (x ∷ y ∷ all) i o c = record { clear = c; first = x; second = y; others = all; two = i }

@@ -1,5 +1,5 @@
 -- What the wants of the code are.
-use Rattle.std.specs.Prelude.{List, map, Option, Some, None}
+use Rattle.std.specs.Prelude.{List, [], ◌∷◌, map, Option, Some, None}
 use Rattle.mbe_rules.specs.Items.{done}
 use Rattle.mbe_rules.specs.Ops.{put_op, separator_of}
 use Rattle.mbe_explain.specs.Stops as s
@@ -21,3 +21,8 @@ want_in (Some w) = want_of w
 -- all that is wanted
 abbrev pub wants_of : List Wanted → List (Option s.Wanted)
 wants_of ws = map want_of ws
+
+-- what a state tells
+abbrev pub told_by : Option Wanted → List (Option s.Wanted)
+told_by None = []
+told_by (Some w) = want_of w ∷ []

@@ -134,31 +134,47 @@ impl<'a> Step<'a> {
     }
 
     // What is open after a move at the end of the ops of this level.
-    fn ahead_after(&self, arena: &'a Bump, level: &'a Level<'a>) -> Result<Ahead<'a>, AllocError>
-        requires { marks_of self.now.levels ≡ mark_of level.now.inside ∷ marks_of level.now.around }
+    fn ahead_after(
+        &self,
+        arena: &'a Bump,
+        inside: Inside<'a>,
+        around: Option<&'a Level<'a>>,
+    ) -> Result<Ahead<'a>, AllocError>
+        requires { marks_of self.now.levels ≡ mark_of inside ∷ marks_of around }
         ensures { (gr : Grammar) (fs : List r.Frame) (p : u.Place) → map frame_mark fs ≡ marks_of self.now.levels →
             IfOk result (λ a. AreAhead (marks_of a.first) (marks_of a.second) (marks_of a.only) (r.next gr (r.at done fs p))) }
     {
-        match level.inside {
-            Inside::Group => Ok(after_any(level.around)),
+        match inside {
+            Inside::Group => Ok(after_any(around)),
             Inside::Separated(separator) => {
                 let inside = Inside::Iteration(separator);
-                Ok(after_any(within(arena, level.around, inside)?))
+                Ok(after_any(within(arena, around, inside)?))
             }
             Inside::Iteration(None) => Ok(Ahead {
                 first: self.levels,
-                second: level.around,
-                only: level.around,
+                second: around,
+                only: around,
             }),
             Inside::Iteration(Some(separator)) => {
                 let inside = Inside::Separated(Some(separator));
-                let first = within(arena, level.around, inside)?;
+                let first = within(arena, around, inside)?;
                 Ok(Ahead {
                     first,
-                    second: level.around,
-                    only: level.around,
+                    second: around,
+                    only: around,
                 })
             }
+        }
+    }
+
+    // What is open after a move at the end of the ops.
+    fn ahead_at_end(&self, arena: &'a Bump) -> Result<Ahead<'a>, AllocError>
+        ensures { (gr : Grammar) (fs : List r.Frame) (p : u.Place) → map frame_mark fs ≡ marks_of self.now.levels →
+            IfOk result (λ a. AreAhead (marks_of a.first) (marks_of a.second) (marks_of a.only) (r.next gr (r.at done fs p))) }
+    {
+        match self.levels {
+            Some(level) => self.ahead_after(arena, level.inside, level.around),
+            None => Ok(after_any(None)),
         }
     }
 
@@ -169,10 +185,7 @@ impl<'a> Step<'a> {
     {
         match self.thread.next_item() {
             Some(op) => self.ahead_at(arena, op),
-            None => match self.levels {
-                Some(level) => self.ahead_after(arena, level),
-                None => Ok(after_any(None)),
-            },
+            None => self.ahead_at_end(arena),
         }
     }
 

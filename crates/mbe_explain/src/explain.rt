@@ -1,13 +1,12 @@
 //! Why a matcher does not match an argument: where all partial readings stop.
-ghost use Rattle.std.specs.Prelude.{◌≡◌, ◌↔◌, IfOk, None, false, is_some, true};
+ghost use Rattle.std.specs.Prelude.{◌≡◌, ◌↔◌, IfOk, false, is_some, true};
 ghost use Rattle.tt.specs.Views.{forest};
 ghost use Rattle.mbe_rules.specs.Items.{has_empty_round};
 ghost use Rattle.mbe_rules.specs.Ops.{items_of};
 ghost use Rattle.mbe_matcher.specs.Places.{place_of};
 ghost use Rattle.mbe_matcher.specs.Readings.{the_reading};
-ghost use Rattle.mbe_matcher.specs.Threads.{head_taken};
 ghost use Rattle.mbe_explain.specs.Stops.{HasTwoReadings, IsFirstClash, IsUnreadAt};
-ghost use Rattle.mbe_explain.specs.Surveys.{kind_at_end, waiters_of};
+ghost use Rattle.mbe_explain.specs.Surveys.{kind_at_end};
 ghost use Rattle.mbe_explain.specs.declared.explain.StopKind.TheVariants as kind;
 
 use crate::step::Step;

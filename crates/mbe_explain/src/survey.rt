@@ -3,17 +3,17 @@
 //!
 //! The matcher passes over readings that can come no further. Here they are kept, since an
 //! explanation has to name what they want.
-ghost use Rattle.std.specs.Prelude.{◌≡◌, ◌<◌, ◌≤◌, ◌+◌, List, [], ◌∷◌, ◌++◌, option_map, OnOk, Some, None};
+ghost use Rattle.std.specs.Prelude.{◌≡◌, ◌<◌, ◌≤◌, ◌+◌, List, [], ◌∷◌, ◌++◌, OnOk, Some, None};
 ghost use Rattle.std.specs.List.{flat_map};
 ghost use Rattle.mbe_rules.specs.Items.{Items};
 ghost use Rattle.mbe_matcher.specs.Paths.{clash};
 ghost use Rattle.mbe_matcher.specs.Places.{place_of};
 ghost use Rattle.mbe_matcher.specs.Readings as r;
-ghost use Rattle.mbe_matcher.specs.Settled.{HasEnd, IsGood, IsSoundAt, most_tasks, planned, tasks_of, tasks_of_all};
-ghost use Rattle.mbe_matcher.specs.Threads.{Waits, head_taken, is_trees, state_of, takings_of, waiting_at, waits_at};
+ghost use Rattle.mbe_matcher.specs.Settled.{IsGood, IsSoundAt, most_tasks};
+ghost use Rattle.mbe_matcher.specs.Threads.{Waits, is_trees, state_of};
 ghost use Rattle.mbe_matcher.specs.Waiting.{Each, advanced_by, empties_at, settled_at};
-ghost use Rattle.mbe_matcher.specs.declared.matcher.SettleTask.TheVariants as settle;
-ghost use Rattle.mbe_explain.specs.Surveys.{Surveys, choice_of, task_of, tasks_left, waiter_of, waiters_of};
+ghost use Rattle.mbe_explain.specs.Surveys.{HasEnd, Surveys, comes_by, comes_of, head_taken, planned, takings_of, tasks_of, tasks_of_all};
+ghost use Rattle.mbe_explain.specs.declared.survey.Task.TheVariants.{GoOn};
 
 use crate::step::Step;
 use bumpalo::Bump;
@@ -64,8 +64,7 @@ impl<'a> Survey<'a> {
     fn plan(&mut self, step: Option<Step<'a>>) -> Result<(), AllocError>
         ensures waiting { OnOk result (self.new.waiting.items ≡ self.old.waiting.items) }
         ensures seen { OnOk result (self.new.seen ≡ self.old.seen) }
-        ensures tasks { OnOk result (tasks_left self.new
-            ≡ tasks_left self.old ++ planned (option_map choice_of step.entry)) }
+        ensures tasks { OnOk result (self.new.tasks.items ≡ self.old.tasks.items ++ planned step.entry) }
     {
         match step {
             None => Ok(()),
@@ -84,15 +83,16 @@ impl<'a> Survey<'a> {
         step: Step<'a>,
         place: &Place<'a>,
     ) -> Result<(), AllocError>
+        requires here { step.taken ≡ None }
         requires good { IsGood (state_of step.thread (place_of place.now)) }
-        requires tasks { Each (HasEnd (place_of place.now)) (tasks_left self.now) }
+        requires tasks { Each (HasEnd (place_of place.now)) self.now.tasks.items }
         ensures all { let p = place_of place.now in let gr = G.answer grammar.now in (pattern : Items) (all : List Waits) →
-            Surveys gr pattern p all self.old (tasks_left self.old ++ (settle.GoOn (record { thread = step.entry.thread; taken = None }) ∷ [])) →
-            OnOk result (Surveys gr pattern p all self.new (tasks_left self.new)) }
-        ensures tasks { OnOk result (Each (HasEnd (place_of place.now)) (tasks_left self.new)) }
+            Surveys gr pattern p all self.old (self.old.tasks.items ++ (GoOn step.entry ∷ [])) →
+            OnOk result (Surveys gr pattern p all self.new self.new.tasks.items) }
+        ensures tasks { OnOk result (Each (HasEnd (place_of place.now)) self.new.tasks.items) }
         ensures fewer { let p = place_of place.now in
-            OnOk result (tasks_of_all p (tasks_left self.new) + 2
-            ≤ tasks_of_all p (tasks_left self.old) + most_tasks (empties_at (state_of step.entry.thread p))) }
+            OnOk result (tasks_of_all p self.new.tasks.items + 2
+            ≤ tasks_of_all p self.old.tasks.items + most_tasks (empties_at (state_of step.entry.thread p))) }
     {
         if has_ended(&step.thread, place) {
             self.waiting.push(step.ended())?;
@@ -113,15 +113,16 @@ impl<'a> Survey<'a> {
         step: Step<'a>,
         place: &Place<'a>,
     ) -> Result<(), AllocError>
+        requires here { step.taken ≡ None }
         requires good { IsGood (state_of step.thread (place_of place.now)) }
-        requires tasks { Each (HasEnd (place_of place.now)) (tasks_left self.now) }
+        requires tasks { Each (HasEnd (place_of place.now)) self.now.tasks.items }
         ensures all { let p = place_of place.now in let gr = G.answer grammar.now in (pattern : Items) (all : List Waits) →
-            Surveys gr pattern p all self.old (tasks_left self.old ++ (settle.GoOn (record { thread = step.entry.thread; taken = None }) ∷ [])) →
-            OnOk result (Surveys gr pattern p all self.new (tasks_left self.new)) }
-        ensures tasks { OnOk result (Each (HasEnd (place_of place.now)) (tasks_left self.new)) }
+            Surveys gr pattern p all self.old (self.old.tasks.items ++ (GoOn step.entry ∷ [])) →
+            OnOk result (Surveys gr pattern p all self.new self.new.tasks.items) }
+        ensures tasks { OnOk result (Each (HasEnd (place_of place.now)) self.new.tasks.items) }
         ensures fewer { let p = place_of place.now in
-            OnOk result (tasks_of_all p (tasks_left self.new)
-            < tasks_of_all p (tasks_left self.old) + most_tasks (empties_at (state_of step.entry.thread p))) }
+            OnOk result (tasks_of_all p self.new.tasks.items
+            < tasks_of_all p self.old.tasks.items + most_tasks (empties_at (state_of step.entry.thread p))) }
     {
         let thread = step.thread;
         let twice = self.seen.was_settled(&thread);
@@ -141,15 +142,15 @@ impl<'a> Survey<'a> {
         task: Task<'a>,
         place: &Place<'a>,
     ) -> Result<(), AllocError>
-        requires task { HasEnd (place_of place.now) (task_of task) }
-        requires tasks { Each (HasEnd (place_of place.now)) (tasks_left self.now) }
+        requires task { HasEnd (place_of place.now) task }
+        requires tasks { Each (HasEnd (place_of place.now)) self.now.tasks.items }
         ensures all { let p = place_of place.now in let gr = G.answer grammar.now in (pattern : Items) (all : List Waits) →
-            Surveys gr pattern p all self.old (tasks_left self.old ++ (task_of task.entry ∷ [])) →
-            OnOk result (Surveys gr pattern p all self.new (tasks_left self.new)) }
-        ensures tasks { OnOk result (Each (HasEnd (place_of place.now)) (tasks_left self.new)) }
+            Surveys gr pattern p all self.old (self.old.tasks.items ++ (task.entry ∷ [])) →
+            OnOk result (Surveys gr pattern p all self.new self.new.tasks.items) }
+        ensures tasks { OnOk result (Each (HasEnd (place_of place.now)) self.new.tasks.items) }
         ensures fewer { let p = place_of place.now in
-            OnOk result (tasks_of_all p (tasks_left self.new)
-            < tasks_of_all p (tasks_left self.old) + tasks_of p (task_of task.entry)) }
+            OnOk result (tasks_of_all p self.new.tasks.items
+            < tasks_of_all p self.old.tasks.items + tasks_of p task.entry) }
     {
         match task {
             Task::Note(seen) => {
@@ -178,11 +179,12 @@ impl<'a> Survey<'a> {
         place: &Place<'a>,
     ) -> Result<(), AllocError>
         requires tasks { self.now.tasks.items ≡ [] }
+        requires here { step.taken ≡ None }
         requires good { IsGood (state_of step.thread (place_of place.now)) }
         ensures done { OnOk result (self.new.tasks.items ≡ []) }
         ensures all { let p = place_of place.now in let gr = G.answer grammar.now in (pattern : Items) (all : List Waits) →
-            Surveys gr pattern p all self.old (settle.GoOn (record { thread = step.entry.thread; taken = None }) ∷ []) →
-            OnOk result (Surveys gr pattern p all self.new []) }
+            Surveys gr pattern p all self.old (GoOn step.entry ∷ []) →
+            OnOk result (Surveys gr pattern p all self.new self.new.tasks.items) }
     {
         self.enter(arena, grammar, step, place)?;
         while let Some(task) = self.tasks.pop() {
@@ -200,11 +202,11 @@ impl<'a> Survey<'a> {
         place: &Place<'a>,
     ) -> Result<(), AllocError>
         requires tasks { self.now.tasks.items ≡ [] }
-        requires sound { (pattern : Items) × IsSoundAt pattern (waiting_at (place_of place.now) (waiter_of step.now)) }
+        requires sound { (pattern : Items) × IsSoundAt pattern (comes_by (place_of place.now) step.now) }
         ensures done { OnOk result (self.new.tasks.items ≡ []) }
         ensures all { let p = place_of place.now in let gr = G.answer grammar.now in (pattern : Items) (all : List Waits) →
-            IsSoundAt pattern (waiting_at p (waiter_of step.now)) → Surveys gr pattern p all self.old [] →
-            OnOk result (Surveys gr pattern p (all ++ advanced_by (settled_at gr) (waiting_at p (waiter_of step.now))) self.new []) }
+            IsSoundAt pattern (comes_by p step.now) → Surveys gr pattern p all self.old [] →
+            OnOk result (Surveys gr pattern p (all ++ advanced_by (settled_at gr) (comes_by p step.now)) self.new []) }
     {
         match step.taken {
             None => {
@@ -212,7 +214,7 @@ impl<'a> Survey<'a> {
                 Ok(())
             }
             Some(_) => {
-                self.settle(arena, grammar, *step, place)?;
+                self.settle(arena, grammar, step.ended(), place)?;
                 Ok(())
             }
         }
@@ -229,11 +231,11 @@ impl<'a> Survey<'a> {
         requires waiting { self.now.waiting.items ≡ [] }
         requires seen { self.now.seen ≡ [] }
         requires tasks { self.now.tasks.items ≡ [] }
-        requires sound { (pattern : Items) × Each (IsSoundAt pattern) (waits_at (place_of place.now) (waiters_of steps.now)) }
+        requires sound { (pattern : Items) × Each (IsSoundAt pattern) (comes_of (place_of place.now) steps.now) }
         ensures done { OnOk result (self.new.tasks.items ≡ []) }
         ensures all { let p = place_of place.now in let gr = G.answer grammar.now in (pattern : Items) →
-            Each (IsSoundAt pattern) (waits_at p (waiters_of steps.now)) →
-            OnOk result (Surveys gr pattern p (flat_map (advanced_by (settled_at gr)) (waits_at p (waiters_of steps.now))) self.new []) }
+            Each (IsSoundAt pattern) (comes_of p steps.now) →
+            OnOk result (Surveys gr pattern p (flat_map (advanced_by (settled_at gr)) (comes_of p steps.now)) self.new []) }
     {
         for step in steps {
             self.advance(arena, grammar, step, place)?;
@@ -266,7 +268,7 @@ fn is_fragment(taken: Consumed) -> bool
 
 /// Whether one partial reading consumes a fragment while another consumes something too.
 pub(crate) fn has_clash(waiting: &[Step<'_>]) -> bool
-    ensures { result ≡ clash (flat_map takings_of (waiters_of waiting.now)) }
+    ensures { result ≡ clash (takings_of waiting.now) }
 {
     let mut any = false;
     let mut fragment = false;
@@ -285,7 +287,7 @@ pub(crate) fn has_clash(waiting: &[Step<'_>]) -> bool
 
 /// What the first of these consumes.
 pub(crate) fn first_taken(waiting: &[Step<'_>]) -> Option<Consumed>
-    ensures { result ≡ head_taken (waiters_of waiting.now) }
+    ensures { result ≡ head_taken waiting.now }
 {
     for step in waiting {
         if let Some(taken) = step.taken {

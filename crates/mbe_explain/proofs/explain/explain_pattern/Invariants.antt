@@ -2,16 +2,15 @@ use Rattle.std.proofs.Common.{◌≡◌, []}
 use Rattle.tt.specs.Views.{forest}
 use Rattle.mbe_rules.specs.Ops.{items_of}
 use Rattle.mbe_matcher.specs.Places.{place_of}
-use Rattle.mbe_matcher.specs.Threads.{waits_at}
 use Rattle.mbe_matcher.specs.Units.{left}
-use Rattle.mbe_explain.specs.Surveys.{waiters_of}
+use Rattle.mbe_explain.specs.Surveys.{comes_of}
 use Rattle.mbe_explain.proofs.StopLemmas.{Entered}
 use Rattle.mbe_explain.proofs.explain.explain_pattern.Given as goal
 
 abbrev pub invariant-loop-entries : goal.invariant-loop-entries
 invariant-loop-entries g l = record {
   entered : Entered (g.G.FragmentGrammar.answer l.grammar) (items_of l.pattern) (forest l.fn.argument) (place_of l.place)
-      (waits_at (place_of l.place) (waiters_of l.entries.items));
+      (comes_of (place_of l.place) l.entries.items);
   waiting : l.found.waiting.items ≡ [];
   seen : l.found.seen ≡ [];
   tasks : l.found.tasks.items ≡ [];

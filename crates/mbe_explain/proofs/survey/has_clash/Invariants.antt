@@ -1,11 +1,8 @@
 use Rattle.std.proofs.Common.{◌≡◌, drop}
-use Rattle.std.specs.List.{flat_map}
 use Rattle.mbe_matcher.specs.Paths.{clash}
-use Rattle.mbe_matcher.specs.Threads.{takings_of}
 use Rattle.mbe_matcher.proofs.ClashPassLemmas.{clash_after}
-use Rattle.mbe_explain.specs.Surveys.{waiters_of}
+use Rattle.mbe_explain.specs.Surveys.{takings_of}
 use Rattle.mbe_explain.proofs.survey.has_clash.Given as goal
 
 abbrev pub invariant-loop-step : goal.invariant-loop-step
-invariant-loop-step l =
-    clash (flat_map takings_of (waiters_of l.waiting)) ≡ clash_after l.any l.fragment (flat_map takings_of (waiters_of (drop l.step-index l.waiting)))
+invariant-loop-step l = clash (takings_of l.waiting) ≡ clash_after l.any l.fragment (takings_of (drop l.step-index l.waiting))
