@@ -93,7 +93,34 @@ returns-in_default-clause-two g c =
     (end-found gr pattern argument c.requires p x.waiting.items w none)).two
 
 pub loop-entries-smaller : goal.loop-entries-smaller
-loop-entries-smaller g c = ?
+loop-entries-smaller g c =
+    let gr = g.G.FragmentGrammar.answer c.args.grammar.now in
+    let pattern = items_of c.args.pattern.now in
+    let argument = forest c.args.argument in
+    let p = place_of c.loop-entries.place in
+    let x = c.advance_all.new.self in
+    let w = after-survey gr pattern argument p c.loop-entries.entries.items c.deref.result.now x c.deref.ensures.value c.loop-entries.invariant.entered
+    (λ e. c.in_ok-advance_all.ensures.all pattern e) in
+    (next-entered gr pattern argument p (place_of c.in_ok-place.place) x.waiting.items c.in-Some.taken w
+    (sym (sym c.if-has_clash.false ∙ c.has_clash.ensures ∙ ap (λ ss. clash (takings_of ss)) c.deref-in-loop-entries.ensures.value))
+    (ap head_taken (sym c.deref-in-loop-entries-2.ensures.value) ∙ sym c.first_taken.ensures ∙ c.in-Some.is) c.in_ok-place.ensures).lower
 
 pub loop-entries-preserved : goal.loop-entries-preserved
-loop-entries-preserved g c = ?
+loop-entries-preserved g c =
+    let gr = g.G.FragmentGrammar.answer c.args.grammar.now in
+    let pattern = items_of c.args.pattern.now in
+    let argument = forest c.args.argument in
+    let p = place_of c.loop-entries.place in
+    let x = c.advance_all.new.self in
+    let w = after-survey gr pattern argument p c.loop-entries.entries.items c.deref.result.now x c.deref.ensures.value c.loop-entries.invariant.entered
+    (λ e. c.in_ok-advance_all.ensures.all pattern e) in
+    let q = place_of c.in_ok-place.place in
+    let n = next-entered gr pattern argument p q x.waiting.items c.in-Some.taken w
+    (sym (sym c.if-has_clash.false ∙ c.has_clash.ensures ∙ ap (λ ss. clash (takings_of ss)) c.deref-in-loop-entries.ensures.value))
+    (ap head_taken (sym c.deref-in-loop-entries-2.ensures.value) ∙ sym c.first_taken.ensures ∙ c.in-Some.is) c.in_ok-place.ensures in
+    record {
+      entered = subst (λ es. Entered gr pattern argument q (comes_of q es)) (sym c.hand_over.ensures.handed) n.entered;
+      waiting = c.hand_over.ensures.waiting;
+      seen = c.hand_over.ensures.seen;
+      tasks = c.hand_over.ensures.tasks ∙ c.in_ok-advance_all.ensures.done;
+    }
