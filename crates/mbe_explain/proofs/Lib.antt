@@ -8,4 +8,7 @@ pub mod SurveyLemmas
 pub mod CountLemmas
 pub mod FoundLemmas
 pub mod LevelLemmas
-pub mod ClosingLemmas
+pub mod SearchLemmas
+pub mod WantedLemmas
+pub mod VisitLemmas
+pub mod Rows

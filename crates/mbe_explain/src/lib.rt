@@ -4,9 +4,11 @@
 mod choices;
 mod explain;
 mod level;
+mod search;
 mod step;
 mod survey;
 mod wanted;
+mod words;
 
 pub use explain::{Stop, StopKind, explain_pattern};
 pub use wanted::Wanted;

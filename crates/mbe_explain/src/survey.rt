@@ -60,8 +60,8 @@ impl<'a> Survey<'a> {
         }
     }
 
-    // Plans a step as the next task, if there is one.
-    fn plan(&mut self, step: Option<Step<'a>>) -> Result<(), AllocError>
+    /// Plans a step as the next task, if there is one.
+    pub(crate) fn plan(&mut self, step: Option<Step<'a>>) -> Result<(), AllocError>
         ensures waiting { OnOk result (self.new.waiting.items ≡ self.old.waiting.items) }
         ensures seen { OnOk result (self.new.seen ≡ self.old.seen) }
         ensures tasks { OnOk result (self.new.tasks.items ≡ self.old.tasks.items ++ planned step.entry) }

@@ -5,7 +5,7 @@ use Rattle.mbe_matcher.specs.Places.{place_of}
 use Rattle.mbe_matcher.specs.Units.{left}
 use Rattle.mbe_explain.specs.Surveys.{comes_of}
 use Rattle.mbe_explain.proofs.StopLemmas.{Entered}
-use Rattle.mbe_explain.proofs.explain.explain_pattern.Given as goal
+use Rattle.mbe_explain.proofs.explain.find.Given as goal
 
 abbrev pub invariant-loop-entries : goal.invariant-loop-entries
 invariant-loop-entries g l = record {
