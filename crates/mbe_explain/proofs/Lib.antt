@@ -1,0 +1,14 @@
+pub mod ListLemmas
+pub mod ReachLemmas
+pub mod KeptSortLemmas
+pub mod ClashOnceLemmas
+pub mod TakenLemmas
+pub mod StopLemmas
+pub mod SurveyLemmas
+pub mod CountLemmas
+pub mod FoundLemmas
+pub mod LevelLemmas
+pub mod SearchLemmas
+pub mod WantedLemmas
+pub mod VisitLemmas
+pub mod Rows

@@ -1,0 +1,71 @@
+-- Stops: how far the partial readings by a matcher come in an argument. (Of this project.)
+use Rattle.std.specs.Prelude.{◌≡◌, ℕ, ◌≤◌, ◌<◌, true, false, List, [], ◌∷◌, Option, Some, None}
+use Rattle.tt_data.specs.declared.delimiter.Delimiter.{Delimiter}
+use Rattle.tt_data.specs.Forest.{Forest}
+use Rattle.mbe_rules.specs.Items.{Item, Items, Separator, done, group_of, item, repetition}
+use Rattle.mbe_matcher.specs.Grammar.{Grammar}
+use Rattle.mbe_matcher.specs.Paths.{IsPath, clash, has_clash, takings_at}
+use Rattle.mbe_matcher.specs.Readings.{Frame, Move, State, at, in_group, in_round, next, parted, place_of, readings, start, takings}
+use Rattle.mbe_matcher.specs.Units.{Place, left}
+
+-- a state that a partial reading comes to
+abbrev pub Reaches : Grammar → Items → Forest → State → Type 0
+Reaches grammar pattern argument s = (ms : List Move) × IsPath (next grammar) (start pattern argument) ms s
+
+-- a position that a partial reading comes to, and none comes further
+pub record IsFurthest (grammar : Grammar) (pattern : Items) (argument : Forest) (p : Place) : Type 0 where
+  pub reached : (s : State) × Reaches grammar pattern argument s × (place_of s ≡ p)
+  pub last : (s : State) → Reaches grammar pattern argument s → left p ≤ left (place_of s)
+
+-- nowhere is a fragment consumed and something else too, no reading uses up the argument, and none comes further
+pub record IsUnreadAt (grammar : Grammar) (pattern : Items) (argument : Forest) (p : Place) : Type 0 where
+  pub clear : has_clash (takings grammar pattern argument) ≡ false
+  pub none : readings grammar pattern argument ≡ []
+  pub furthest : IsFurthest grammar pattern argument p
+
+-- the first position at which a fragment is consumed by one partial reading, and something else too
+pub record IsFirstClash (grammar : Grammar) (pattern : Items) (argument : Forest) (p : Place) : Type 0 where
+  pub reached : (s : State) × Reaches grammar pattern argument s × (place_of s ≡ p)
+  pub clashes : clash (takings_at (left p) (takings grammar pattern argument)) ≡ true
+  pub first : (q : ℕ) → left p < q → clash (takings_at q (takings grammar pattern argument)) ≡ false
+
+-- more than one list of moves uses up the argument, and nowhere is a fragment consumed and something else too
+pub record HasTwoReadings (grammar : Grammar) (pattern : Items) (argument : Forest) : Type 0 where
+  pub clear : has_clash (takings grammar pattern argument) ≡ false
+  pub first : List Move
+  pub second : List Move
+  pub others : List (List Move)
+  pub two : readings grammar pattern argument ≡ first ∷ second ∷ others
+
+-- what a matcher has to read next: an op, a separator, the closing of a group, the end of the argument
+pub data Wanted : Type 0 where
+  wants_item : Item → Wanted
+  wants_group : Delimiter → Wanted
+  wants_separator : Separator → Wanted
+  wants_close : Wanted
+  wants_end : Wanted
+
+-- what a list of ops begins with, if that has to be read
+abbrev pub wanted_first : Items → Option Wanted
+wanted_first done = None
+wanted_first (item i rest) = Some (wants_item i)
+wanted_first (group_of d inner rest) = Some (wants_group d)
+wanted_first (repetition body sep op rest) = None
+
+-- what has to be read at the end of a list of ops, inside these groups and repetitions
+abbrev pub wanted_last : List Frame → Option Wanted
+wanted_last [] = Some wants_end
+wanted_last (in_group after ∷ fs) = Some wants_close
+wanted_last (in_round body (Some sep) op after ∷ fs) = Some (wants_separator sep)
+wanted_last (in_round body None op after ∷ fs) = None
+wanted_last (parted body sep op after ∷ fs) = None
+
+-- what has to be read in a state; none where the next move consumes nothing
+abbrev pub wanted : State → Option Wanted
+wanted (at done fs p) = wanted_last fs
+wanted (at items fs p) = wanted_first items
+
+-- a partial reading comes to this position and wants this there
+abbrev pub IsWantedAt : Grammar → Items → Forest → Place → Wanted → Type 0
+IsWantedAt grammar pattern argument p w =
+    (s : State) × Reaches grammar pattern argument s × (place_of s ≡ p) × (wanted s ≡ Some w)
