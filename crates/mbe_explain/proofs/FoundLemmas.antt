@@ -1,5 +1,5 @@
 -- What a stop shows, by its kind.
-use Rattle.std.proofs.Common.{◌≡◌, ◌↔◌, inl, refl, sym, ap, subst, ◌∙◌, Bool, true, false, List, [], ◌∷◌, is_some, Option, Some, None}
+use Rattle.std.proofs.Common.{◌≡◌, ◌↔◌, inl, refl, sym, ap, subst, ◌∙◌, true, false, List, [], ◌∷◌, is_some, Option, Some, None}
 use Rattle.std.specs.List.{flat_map}
 use Rattle.tt_data.specs.Forest.{Forest}
 use Rattle.mbe_rules.specs.Items.{Items, has_empty_round}

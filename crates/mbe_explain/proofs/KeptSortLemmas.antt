@@ -1,5 +1,5 @@
 -- What is kept of paths has the sorts of all.
-use Rattle.std.proofs.Common.{◌≡◌, ◌⊎◌, inl, inr, refl, sym, ap, subst, ◌∙◌, Bool, List, [], ◌∷◌, ◌++◌, append_assoc, Option}
+use Rattle.std.proofs.Common.{◌⊎◌, inl, inr, sym, subst, Bool, List, [], ◌∷◌, ◌++◌, Option}
 use Rattle.mbe_matcher.specs.Paths.{IsAmong}
 use Rattle.mbe_matcher.specs.Settled.{IsKept, IsTwice, sort_of, sorts}
 use Rattle.mbe_matcher.specs.Waiting.{Waiting}

@@ -1,7 +1,6 @@
 -- What is open after each move.
-use Rattle.std.proofs.Common.{◌≡◌, refl, sym, ap, subst, ◌∙◌, ℕ, suc, zero, Bool, true, false, List, [], ◌∷◌, ◌++◌, map, Option, Some, None, slice_get}
+use Rattle.std.proofs.Common.{◌≡◌, refl, sym, ap, ◌∙◌, ℕ, suc, zero, Bool, true, false, List, [], ◌∷◌, ◌++◌, map, Option, Some, None, slice_get}
 use Rattle.tt_data.specs.declared.delimiter.Delimiter.{Delimiter}
-use Rattle.tt_data.specs.declared.span.Span.{Span}
 use Rattle.mbe_rules.specs.Items as i
 use Rattle.mbe_rules.specs.Items.{Item, Items, Separator, done, dollar, group_of, item, lifetime, may_skip, puncts, repetition, variable, word, count_of, index_of, len_of, ignore_of, concat_of}
 use Rattle.mbe_rules.specs.Ops.{items_of, put_op}

@@ -1,5 +1,5 @@
 -- Elements of lists that are joined from others.
-use Rattle.std.proofs.Common.{◌≡◌, inl, inr, refl, sym, ap, subst, ◌⊎◌, Bool, true, false, List, [], ◌∷◌, ◌++◌, map}
+use Rattle.std.proofs.Common.{◌≡◌, inl, inr, refl, sym, subst, Bool, true, false, List, [], ◌∷◌}
 use Rattle.std.specs.List.{flat_map}
 use Rattle.mbe_matcher.specs.Paths.{IsAmong, when}
 use Rattle.mbe_matcher.specs.Settled.{sorts}

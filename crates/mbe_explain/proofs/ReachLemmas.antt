@@ -9,13 +9,13 @@ use Rattle.mbe_matcher.specs.Paths.{IsAmong, IsPath, when}
 use Rattle.mbe_matcher.specs.Readings as r
 use Rattle.mbe_matcher.specs.Settled.{sorts}
 use Rattle.mbe_matcher.specs.Units as u
-use Rattle.mbe_matcher.specs.Waiting.{Each, Good, Waiting, empties_at, ended, gather, pending, prefixed, settled_at, settled_one}
+use Rattle.mbe_matcher.specs.Waiting.{Good, Waiting, empties_at, ended, gather, pending, prefixed, settled_at, settled_one}
 use Rattle.mbe_matcher.proofs.KeptLemmas.{among-left, among-right, sorts-append, sorts-prefixed}
 use Rattle.mbe_matcher.proofs.MatchingLemmas.{settled-at}
 use Rattle.mbe_matcher.proofs.MoveLemmas.{does}
 use Rattle.mbe_matcher.proofs.PathListLemmas.{among-append}
 use Rattle.mbe_explain.specs.Stops.{Reaches}
-use Rattle.mbe_explain.proofs.ListLemmas.{in-flat_map, of-flat_map, of-when, sorts-flat_map}
+use Rattle.mbe_explain.proofs.ListLemmas.{in-flat_map, of-flat_map, sorts-flat_map}
 
 -- what a path waits with: nothing at the end, else whether a fragment was consumed, and the state
 abbrev pub Sort : Type 0

@@ -1,5 +1,5 @@
 -- Worked rows: where calls stop that no rule fits, and what is wanted there.
-use Rattle.std.proofs.Common.{◌≡◌, ◌≤◌, inl, inr, refl, sym, ap, subst, ℕ, Bool, true, false, List, [], ◌∷◌, codes, Option, Some, None, arith}
+use Rattle.std.proofs.Common.{◌≡◌, inl, refl, ap, subst, ℕ, List, [], ◌∷◌, codes, Some, arith}
 use Rattle.tt_data.specs.Forest.{Forest, empty, leaf, group}
 use Rattle.tt_data.specs.declared.delimiter.Delimiter.{Delimiter}
 use Rattle.tt_data.specs.declared.delimiter.DelimiterKind.TheVariants.{Parenthesis}

@@ -1,6 +1,5 @@
 -- A search of all states at a position: each that is near is entered once.
-use Rattle.std.proofs.Common.{◌≡◌, ◌⊎◌, inl, inr, refl, sym, ap, subst, ◌∙◌, ℕ, option_map, Bool, true, false, List, [], ◌∷◌, ◌++◌, map, Option, Some, None}
-use Rattle.std.specs.List.{flat_map}
+use Rattle.std.proofs.Common.{◌≡◌, ◌⊎◌, inl, inr, refl, sym, ap, subst, ◌∙◌, option_map, false, List, [], ◌∷◌, ◌++◌, map, Option, Some, None}
 use Rattle.mbe_rules.specs.Items.{Items}
 use Rattle.mbe_matcher.specs.Grammar.{Grammar}
 use Rattle.mbe_matcher.specs.Paths.{IsAmong, IsPath}
@@ -11,7 +10,6 @@ use Rattle.mbe_matcher.specs.Threads.{Made, extended, given, is_some_taken, made
 use Rattle.mbe_matcher.specs.Units as u
 use Rattle.mbe_matcher.specs.Waiting.{Each}
 use Rattle.mbe_matcher.specs.declared.position.Consumed.{Consumed}
-use Rattle.mbe_matcher.specs.declared.step.Choice.{Choice}
 use Rattle.mbe_matcher.specs.declared.thread.Thread.{Thread}
 use Rattle.mbe_matcher.proofs.KeptLemmas.{among-left, among-right}
 use Rattle.mbe_matcher.proofs.PathListLemmas.{among-append}

@@ -1,17 +1,17 @@
 -- What is known of the partial readings at a position, and what their stop shows.
-use Rattle.std.proofs.Common.{◌≡◌, ◌↔◌, ◌⊎◌, inl, inr, refl, sym, ap, subst, ◌∙◌, ℕ, ◌≤◌, ◌<◌, Bool, true, false, List, [], ◌∷◌, ◌++◌, map, append-nil, is_some, Option, Some, None, if◌then◌else◌, arith}
+use Rattle.std.proofs.Common.{◌≡◌, ◌⊎◌, inl, inr, refl, sym, ap, subst, ◌∙◌, ℕ, ◌≤◌, ◌<◌, Bool, true, false, List, [], ◌∷◌, ◌++◌, map, append-nil, Option, Some, None, if◌then◌else◌, arith}
 use Rattle.std.specs.List.{flat_map}
 use Rattle.tt_data.specs.Forest.{Forest}
 use Rattle.mbe_rules.specs.Items.{Items, has_empty_round}
 use Rattle.mbe_rules.specs.Text.{is_nil}
 use Rattle.mbe_matcher.specs.Grammar.{Grammar}
-use Rattle.mbe_matcher.specs.Paths.{IsAmong, IsPath, clash, has_clash, only, takings_at}
+use Rattle.mbe_matcher.specs.Paths.{IsAmong, clash, has_clash, only, takings_at}
 use Rattle.mbe_matcher.specs.Places.{place_after}
 use Rattle.mbe_matcher.specs.Readings as r
-use Rattle.mbe_matcher.specs.Settled.{IsKept, IsSound, IsSoundAt, sort_of, sorts}
+use Rattle.mbe_matcher.specs.Settled.{IsKept, IsSound, IsSoundAt, sorts}
 use Rattle.mbe_matcher.specs.Threads as t
 use Rattle.mbe_matcher.specs.Units as u
-use Rattle.mbe_matcher.specs.Waiting.{Each, Good, IsFrom, IsTo, advanced_by, ended, finished, heads, pending, prefixed, settled_at, unless}
+use Rattle.mbe_matcher.specs.Waiting.{Each, Good, IsTo, advanced_by, ended, finished, heads, pending, prefixed, settled_at, unless}
 use Rattle.mbe_matcher.specs.declared.position.Consumed.{Consumed}
 use Rattle.mbe_matcher.proofs.ClashLemmas.{clash-from}
 use Rattle.mbe_matcher.proofs.GatherLemmas.{none-among}
@@ -24,7 +24,7 @@ use Rattle.mbe_matcher.proofs.SoundLemmas.{AllFrom, AllTo, Sound, advance-at, fr
 use Rattle.mbe_matcher.proofs.TheLoopLemmas.{Held, start-held}
 use Rattle.mbe_explain.specs.Surveys.{comes_if, comes_of, first_or, head_taken, takings_if, takings_of, waits_if, waits_of}
 use Rattle.mbe_explain.specs.declared.step.Step.{Step}
-use Rattle.mbe_explain.specs.Stops.{HasTwoReadings, IsFirstClash, IsFurthest, IsUnreadAt, Reaches}
+use Rattle.mbe_explain.specs.Stops.{HasTwoReadings, IsFirstClash, IsUnreadAt, Reaches}
 use Rattle.mbe_explain.proofs.KeptSortLemmas.{all-are-kept, kept-of-all}
 use Rattle.mbe_explain.proofs.ListLemmas.{in-flat_map, of-flat_map, sorts-flat_map}
 use Rattle.mbe_explain.proofs.ReachLemmas.{IsReached, Passes, Sort, leads, left_of, none-left, settled-reached}

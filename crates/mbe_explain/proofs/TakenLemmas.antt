@@ -1,5 +1,5 @@
 -- What is consumed, position by position: what waits there shows each clash.
-use Rattle.std.proofs.Common.{◌≡◌, ◌⊎◌, inl, inr, refl, sym, ap, subst, ◌∙◌, ℕ, zero, suc, ◌≤◌, ◌<◌, ◌==◌, Bool, true, false, List, [], ◌∷◌, ◌++◌, map, append_assoc, append-nil, Option, Some, None, arith}
+use Rattle.std.proofs.Common.{◌≡◌, inl, inr, refl, sym, ap, ◌∙◌, ℕ, zero, suc, ◌<◌, ◌==◌, Bool, true, false, List, [], ◌∷◌, ◌++◌, map, append_assoc, Some, None, arith}
 use Rattle.std.specs.List.{flat_map}
 use Rattle.std.proofs.lemmas.Bool.{eqb-true, eqb-false, eq-eqb}
 use Rattle.std.proofs.lemmas.Grind.{flat_map-append}
@@ -11,7 +11,7 @@ use Rattle.mbe_matcher.specs.Readings as r
 use Rattle.mbe_matcher.specs.Settled.{IsKept, sort_of}
 use Rattle.mbe_matcher.specs.Threads.{Waits}
 use Rattle.mbe_matcher.specs.Units as u
-use Rattle.mbe_matcher.specs.Waiting.{Each, Good, Waiting, advanced_by, empties_at, ended, gather, heads, pending, prefixed, settled_at}
+use Rattle.mbe_matcher.specs.Waiting.{Each, Good, advanced_by, empties_at, ended, gather, heads, pending, prefixed, settled_at}
 use Rattle.mbe_matcher.proofs.FallingLemmas.{bound}
 use Rattle.mbe_matcher.proofs.GatherLemmas.{flat_map-among, gather-enough}
 use Rattle.mbe_matcher.proofs.LoopLemmas as loop

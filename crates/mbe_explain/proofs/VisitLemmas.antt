@@ -21,7 +21,7 @@ use Rattle.mbe_matcher.proofs.TaskLemmas.{each-put}
 use Rattle.mbe_explain.specs.Searches.{IsNearWant, Searched, come_by, come_if, come_to, entered_of, open_by, open_if, open_of}
 use Rattle.mbe_explain.specs.Stops.{Wanted, wanted}
 use Rattle.mbe_explain.specs.Surveys.{HasEnd, choice_of, comes_by, planned}
-use Rattle.mbe_explain.specs.Wants.{told_by, want_in, want_of, wants_of}
+use Rattle.mbe_explain.specs.Wants.{told_by, want_in, wants_of}
 use Rattle.mbe_explain.specs.declared.step.Step.{Step}
 use Rattle.mbe_explain.specs.declared.survey.Task.{Task}
 use Rattle.mbe_explain.specs.declared.survey.Task.TheVariants.{GoOn, Note}

@@ -1,8 +1,6 @@
 -- What is wanted at a position: what the states that are near to those that have come to it want.
-use Rattle.std.proofs.Common.{◌≡◌, ◌↔◌, ◌⊎◌, ◌||◌, inl, inr, refl, sym, ap, subst, ◌∙◌, ℕ, ◌≤◌, ◌<◌, Bool, true, false, List, [], ◌∷◌, ◌++◌, map, append_assoc, Option, Some, None, arith}
-use Rattle.std.specs.List.{flat_map, list_any}
-use Rattle.std.proofs.lemmas.Grind.{flat_map-append}
-use Rattle.std.proofs.lemmas.List.{map-append}
+use Rattle.std.proofs.Common.{◌≡◌, ◌↔◌, ◌||◌, inl, inr, refl, sym, ap, subst, ◌∙◌, ℕ, ◌≤◌, ◌<◌, Bool, true, false, List, [], ◌∷◌, ◌++◌, Option, Some, None, arith}
+use Rattle.std.specs.List.{list_any}
 use Rattle.tt_data.specs.Forest.{Forest}
 use Rattle.mbe_rules.specs.Items.{Items}
 use Rattle.mbe_matcher.specs.Grammar.{Grammar}
@@ -21,10 +19,10 @@ use Rattle.mbe_matcher.proofs.LikeLemmas.{one-state-of}
 use Rattle.mbe_matcher.proofs.MoveLemmas.{does}
 use Rattle.mbe_matcher.proofs.PathListLemmas.{among-append}
 use Rattle.mbe_explain.specs.Searches.{IsNearWant, come_by, come_if, come_to, entered_of}
-use Rattle.mbe_explain.specs.Stops.{IsWantedAt, Reaches, Wanted, wanted, wanted_first}
+use Rattle.mbe_explain.specs.Stops.{IsWantedAt, Reaches, Wanted}
 use Rattle.mbe_explain.specs.Surveys.{comes_if, comes_of}
 use Rattle.mbe_explain.specs.declared.step.Step.{Step}
-use Rattle.mbe_explain.proofs.ReachLemmas.{Passes, left_of, never-back, path-after}
+use Rattle.mbe_explain.proofs.ReachLemmas.{left_of, never-back, path-after}
 use Rattle.mbe_explain.proofs.StopLemmas.{Entered, IsEntry}
 
 -- ---- steps that have come to a position

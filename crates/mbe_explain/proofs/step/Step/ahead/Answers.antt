@@ -1,4 +1,4 @@
-use Rattle.std.proofs.Common.{◌≡◌, sym, ap, subst, ◌∙◌, option_map, slice_get, IfOk}
+use Rattle.std.proofs.Common.{◌≡◌, sym, subst, option_map, slice_get, IfOk}
 use Rattle.mbe_matcher.specs.Readings as r
 use Rattle.mbe_matcher.specs.Threads.{frames_of}
 use Rattle.mbe_explain.specs.Levels.{AreAhead, marks_of}

@@ -1,4 +1,4 @@
-use Rattle.std.proofs.Common.{◌≡◌, sym, ap, subst, ◌∙◌, ◌++◌, map, Some, None}
+use Rattle.std.proofs.Common.{◌≡◌, subst, ◌++◌, map, Some, None}
 use Rattle.mbe_matcher.specs.Places.{place_of}
 use Rattle.mbe_matcher.specs.Readings as r
 use Rattle.mbe_matcher.specs.Threads.{extended, given, moves_of, state_of}

@@ -3,7 +3,7 @@ use Rattle.mbe_matcher.specs.Places.{place_of}
 use Rattle.mbe_matcher.specs.Threads.{moves_of, state_of}
 use Rattle.mbe_matcher.specs.Waiting.{empties_at}
 use Rattle.mbe_matcher.proofs.TaskLemmas.{some-tasks}
-use Rattle.mbe_explain.specs.Surveys.{Leads, planned, waits_of}
+use Rattle.mbe_explain.specs.Surveys.{planned}
 use Rattle.mbe_explain.proofs.CountLemmas.{plans}
 use Rattle.mbe_explain.proofs.SurveyLemmas.{end-waits, goes-on, same-leads}
 use Rattle.mbe_explain.proofs.survey.Survey.go_on.Goals as goal

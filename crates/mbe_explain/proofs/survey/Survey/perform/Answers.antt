@@ -1,7 +1,7 @@
-use Rattle.std.proofs.Common.{subst, sym, ◌∷◌, ◌++◌, []}
+use Rattle.std.proofs.Common.{subst, ◌∷◌, ◌++◌, []}
 use Rattle.mbe_matcher.specs.Places.{place_of}
 use Rattle.mbe_explain.specs.Surveys.{Leads, waits_of}
-use Rattle.mbe_explain.proofs.SurveyLemmas.{note-seen, taken-waits}
+use Rattle.mbe_explain.proofs.SurveyLemmas.{taken-waits}
 use Rattle.mbe_explain.proofs.survey.Survey.perform.Goals as goal
 
 pub returns-in_ok-push-in-Some-clause-all : goal.returns-in_ok-push-in-Some-clause-all

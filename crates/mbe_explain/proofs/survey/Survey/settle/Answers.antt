@@ -1,7 +1,7 @@
-use Rattle.std.proofs.Common.{sym, ap, subst, ◌∙◌, ◌∷◌, [], ◌++◌, append-nil, arith}
+use Rattle.std.proofs.Common.{sym, subst, ◌∙◌, ◌∷◌, [], ◌++◌, append-nil, arith}
 use Rattle.mbe_matcher.specs.Places.{place_of}
 use Rattle.mbe_matcher.specs.Waiting.{Each}
-use Rattle.mbe_explain.specs.Surveys.{HasEnd, Leads, tasks_of_all, waits_of}
+use Rattle.mbe_explain.specs.Surveys.{HasEnd, Leads, waits_of}
 use Rattle.mbe_explain.specs.declared.survey.Task.TheVariants.{GoOn}
 use Rattle.mbe_explain.proofs.CountLemmas.{last-end, one-more}
 use Rattle.mbe_explain.proofs.survey.Survey.settle.Goals as goal
