@@ -1,9 +1,8 @@
 -- Open lists: what the outermost gives, and what is left.
-use Rattle.std.proofs.Common.{◌≡◌, ℕ, ◌+◌, ◌≤◌, ◌<◌, Bool, false, List, [], ◌∷◌, ◌++◌, Option, Some, None, refl, sym, ap, ◌∙◌, arith}
-use Rattle.tt_data.specs.Forest.{Forest, empty, size}
-use Rattle.small_grammar.specs.Text.{is_empty, ◌>>=◌}
-use Rattle.textual_scope.specs.Conditions.{cut_at_commas}
-use Rattle.cfg_options.specs.OpenLists.{IsLess, IsWithin, left_in, value_around, weight, whole_value}
+use Rattle.std.proofs.Common.{◌≡◌, ℕ, ◌+◌, ◌<◌, Bool, false, List, [], ◌∷◌, ◌++◌, Option, None, refl, ap, arith}
+use Rattle.tt_data.specs.Forest.{Forest, size}
+use Rattle.small_grammar.specs.Text.{is_empty}
+use Rattle.cfg_options.specs.OpenLists.{IsLess, IsWithin, left_in, value_around, whole_value}
 use Rattle.cfg_options.specs.Parts.{after_part, first_part, open_value, value_of_rest}
 use Rattle.cfg_options.specs.declared.predicate.OpenList.{OpenList}
 use Rattle.cfg_options.specs.declared.predicate.SoFar.{SoFar}

@@ -15,7 +15,7 @@ use Rattle.expander_model.specs.Definitions.{or_else}
 use Rattle.textual_scope.specs.Conditions.{Options, cut_at_commas, each_value, list_behind, listed, listed_values, negated, option_value, parenthesized, predicate_value, value_within}
 use Rattle.cfg_options.specs.OpenLists.{begun, list_of}
 use Rattle.cfg_options.specs.Parts.{open_value, value_of_rest, with_value}
-use Rattle.cfg_options.specs.declared.predicate.SoFar.TheVariants.{All, Any, Not, NotOf}
+use Rattle.cfg_options.specs.declared.predicate.SoFar.TheVariants.{All, Any, Not}
 use Rattle.cfg_options.specs.declared.predicate.OpenList.{OpenList}
 use Rattle.cfg_options.proofs.PartLemmas.{size-both}
 

@@ -1,5 +1,5 @@
 -- Worked examples of strings and of attributes that are not read, by computation.
-use Rattle.std.proofs.Common.{◌≡◌, ℕ, Bool, true, false, ◌&&◌, List, [], ◌∷◌, ◌++◌, Option, Some, None, codes, refl}
+use Rattle.std.proofs.Common.{◌≡◌, ℕ, false, List, [], ◌∷◌, ◌++◌, Option, Some, None, codes, refl}
 use Rattle.std.specs.Prelude.{encode_utf8}
 use Prim.Native.String.{String}
 use Rattle.tt_data.specs.Forest.{Forest, empty, leaf, group}

@@ -1,7 +1,7 @@
 -- The text of a string, unit by unit.
 use Rattle.std.proofs.Common.{◌≡◌, ℕ, zero, suc, ◌≤◌, ◌<◌, Bool, List, [], ◌∷◌, ◌++◌, Option, Some, None, option_map, length, refl, sym, ap, ◌∙◌, arith, append_assoc}
 use Rattle.small_grammar.specs.Text.{◌>>=◌}
-use Rattle.cfg_options.specs.Strings.{first_unit, unescaped}
+use Rattle.cfg_options.specs.Strings.{unescaped}
 use Rattle.cfg_options.specs.StringSteps.{unit_at}
 
 pub nothing_in_front : (out : List ℕ) (o : Option (List ℕ)) → out ≡ [] → o ≡ option_map (λ back. out ++ back) o

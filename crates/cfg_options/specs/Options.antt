@@ -1,5 +1,5 @@
 -- Which options a set of them has.
-use Rattle.std.specs.Prelude.{ℕ, Bool, true, false, ◌&&◌, ◌||◌, List, Option, Some, None, option_map}
+use Rattle.std.specs.Prelude.{ℕ, Bool, true, false, ◌&&◌, List, Option, Some, None, option_map}
 use Rattle.std.specs.List.{list_any}
 use Rattle.small_grammar.specs.Text.{same_text}
 use Rattle.textual_scope.specs.Conditions.{Options}

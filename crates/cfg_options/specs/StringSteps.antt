@@ -1,5 +1,5 @@
 -- What a part of a string's text stands for, as the functions inside the crate have it.
-use Rattle.std.specs.Prelude.{ℕ, Bool, List, [], ◌∷◌, Option, Some, None, encode_utf8}
+use Rattle.std.specs.Prelude.{ℕ, Bool, List, [], ◌∷◌, Option, None, encode_utf8}
 use denote.Ref.{Bor}
 use Rattle.cfg_options.specs.Strings.{first_unit}
 use Rattle.cfg_options.specs.declared.strings.StringPart.{StringPart}

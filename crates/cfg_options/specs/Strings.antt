@@ -5,7 +5,6 @@ use Rattle.tt_data.specs.Literals.{LiteralParts}
 use Rattle.tt_data.specs.declared.leaf.LitKind.{LitKind}
 use Rattle.tt_data.specs.declared.leaf.LitKind.TheVariants as lit_kind
 use Rattle.bridge.specs.Text.{char}
-use Rattle.expander_model.specs.Definitions.{or_else}
 use Rattle.small_grammar.specs.Text.{◌>>=◌, ◌>>◌}
 
 -- the line end characters

@@ -1,4 +1,3 @@
-use Rattle.std.proofs.Common.{sym, ◌∙◌}
 use Rattle.cfg_options.proofs.FindingLemmas.{first_is}
 use Rattle.cfg_options.proofs.StepLemmas.{some_trees}
 use Rattle.cfg_options.proofs.attributes.first_value.Goals as goal

@@ -1,4 +1,4 @@
-use Rattle.std.proofs.Common.{◌≡◌, ◌+◌, ◌≤◌, ◌<◌, ◌^◌, false}
+use Rattle.std.proofs.Common.{◌≡◌, ◌+◌, ◌<◌, ◌^◌, false}
 use Rattle.tt_data.specs.Forest.{size}
 use Rattle.textual_scope.specs.Conditions.{ends_in_body}
 use Rattle.cfg_options.proofs.items.ends_in_body.Given as goal

@@ -1,4 +1,3 @@
-use Rattle.std.proofs.Common.{◌≡◌}
 use Rattle.tt_data.specs.Forest.{size}
 use Rattle.cfg_options.proofs.PartLemmas.{IsSplitAt}
 use Rattle.cfg_options.proofs.parts.split_part.Given as goal

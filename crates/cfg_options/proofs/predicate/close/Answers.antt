@@ -1,9 +1,8 @@
-use Rattle.std.proofs.Common.{List, sym, ap, ◌∙◌, arith}
+use Rattle.std.proofs.Common.{sym, ap, ◌∙◌, arith}
 use Rattle.textual_scope.specs.Conditions.{cut_at_commas}
-use Rattle.tt_data.specs.Forest.{Forest, empty, size}
-use Rattle.cfg_options.specs.OpenLists.{IsLess, IsWithin, left_in, value_around, weight, whole_value}
-use Rattle.cfg_options.specs.Parts.{ended, open_value, value_of_rest}
-use Rattle.cfg_options.specs.declared.predicate.OpenList.{OpenList}
+use Rattle.tt_data.specs.Forest.{empty, size}
+use Rattle.cfg_options.specs.OpenLists.{left_in, value_around, weight, whole_value}
+use Rattle.cfg_options.specs.Parts.{ended, value_of_rest}
 use Rattle.cfg_options.proofs.OpenListLemmas.{innermost, left_with, less_than}
 use Rattle.cfg_options.proofs.predicate.close.Goals as goal
 

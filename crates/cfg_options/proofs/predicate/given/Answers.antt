@@ -1,4 +1,4 @@
-use Rattle.std.proofs.Common.{Some, sym, ap, ◌∙◌}
+use Rattle.std.proofs.Common.{sym, ap, ◌∙◌}
 use Rattle.small_grammar.specs.Text.{◌>>=◌}
 use Rattle.textual_scope.specs.Conditions.{cut_at_commas}
 use Rattle.tt_data.specs.Forest.{empty}

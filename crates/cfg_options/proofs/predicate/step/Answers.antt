@@ -1,4 +1,4 @@
-use Rattle.std.proofs.Common.{sym, ◌∙◌, arith, ◌+◌}
+use Rattle.std.proofs.Common.{sym, ◌∙◌, ◌+◌}
 use Rattle.tt_data.specs.Forest.{size}
 use Rattle.cfg_options.specs.OpenLists.{left_in, value_under, weight}
 use Rattle.cfg_options.specs.Options.{options_of}

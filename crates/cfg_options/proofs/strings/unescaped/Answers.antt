@@ -1,4 +1,4 @@
-use Rattle.std.proofs.Common.{sym, ap, ◌∙◌, ◌++◌, ◌≡◌, List, length, option_map, arith}
+use Rattle.std.proofs.Common.{sym, ◌∙◌, length, arith}
 use Rattle.cfg_options.specs.Strings.{unescaped}
 use Rattle.cfg_options.specs.StringSteps.{bytes_of}
 use Rattle.cfg_options.proofs.StringLemmas.{nothing_in_front, same_front, unit_on}

@@ -1,4 +1,4 @@
-use Rattle.std.proofs.Common.{◌≡◌, true, sym, ap, ◌∙◌, option_map, rules}
+use Rattle.std.proofs.Common.{◌≡◌, true, sym, ap, ◌∙◌, option_map}
 use Rattle.tt_data.specs.Lent.{ident_lent, literal_lent}
 use Rattle.tt_data.specs.declared.leaf.Ident.{Ident}
 use Rattle.textual_scope.specs.Conditions.{is_option_name}
