@@ -1,6 +1,7 @@
 pub mod ResultLemmas
 pub mod MarkLemmas
 pub mod AgreementLemmas
+pub mod FindsLemmas
 pub mod SizeLemmas
 pub mod ChainLemmas
 pub mod PlainLemmas
