@@ -1,5 +1,5 @@
 /* Checks of the C interface: the row of the README, every code that a text of this size can bring about but MEMORY,
- * and random edits of one session against fresh sessions. */
+ * and random edits of one session against fresh sessions, by both rules of scopes. */
 #define _GNU_SOURCE
 #include "expander.h"
 #include <stdbool.h>
@@ -76,6 +76,29 @@ static void grammars(void) {
     }
 }
 
+/* A definition in a block is found by Rust's scope alone. */
+static void scopes(void) {
+    const char *text = "fn f() { macro_rules! m { () => { 1 } } m!{} }";
+    for (uint32_t scope = EXPANDER_SCOPE_TOP; scope <= EXPANDER_SCOPE_RUST; scope++) {
+        struct expander_session s = EXPANDER_SESSION_INIT;
+        struct expander_counts counts = {0, 0, 0, 0};
+        struct expander_options options = {2024, EXPANDER_GRAMMAR_RUST, scope, 128};
+        char room[64] = "";
+        SAME(expander_open_with(&s, text, strlen(text), &options), EXPANDER_OK);
+        SAME(expander_expand(&s), EXPANDER_OK);
+        SAME(expander_counts(&s, &counts), EXPANDER_OK);
+        SAME(counts.faults, scope == EXPANDER_SCOPE_TOP);
+        SAME(expander_printed(&s, room, sizeof room), EXPANDER_OK);
+        SAME(strcmp(room, "fn f ( ) { 1 }\n") == 0, scope == EXPANDER_SCOPE_RUST);
+        /* Without options it is that of the top level. */
+        SAME(open_text(&s, text), EXPANDER_OK);
+        SAME(expander_expand(&s), EXPANDER_OK);
+        SAME(expander_counts(&s, &counts), EXPANDER_OK);
+        SAME(counts.faults, 1);
+        expander_close(&s);
+    }
+}
+
 static void codes(void) {
     struct expander_session s = EXPANDER_SESSION_INIT;
     struct expander_counts counts = {7, 7, 7, 7};
@@ -102,6 +125,19 @@ static void codes(void) {
     SAME(expander_open(&s, "a", 1, 2024, 128, 2), EXPANDER_GRAMMAR);
     SAME(expander_open(&s, "a", 1, 2024, 128, UINT32_MAX), EXPANDER_GRAMMAR);
     SAME(expander_open(&s, "\xff", 1, 2024, 128, 0), EXPANDER_UTF8);
+    struct expander_options options = {2024, EXPANDER_GRAMMAR_SMALL, 2, 128};
+    SAME(expander_open_with(&s, "a", 1, &options), EXPANDER_SCOPE);
+    options.scope = UINT32_MAX;
+    SAME(expander_open_with(&s, "a", 1, &options), EXPANDER_SCOPE);
+    options.scope = EXPANDER_SCOPE_RUST, options.edition = 2020;
+    SAME(expander_open_with(&s, "a", 1, &options), EXPANDER_EDITION);
+    options.edition = 2024, options.grammar = 2;
+    SAME(expander_open_with(&s, "a", 1, &options), EXPANDER_GRAMMAR);
+    options.grammar = EXPANDER_GRAMMAR_SMALL;
+    SAME(expander_open_with(&s, "\xff", 1, &options), EXPANDER_UTF8);
+    SAME(expander_open_with(&s, NULL, 1, &options), EXPANDER_NULL);
+    SAME(expander_open_with(&s, "a", 1, NULL), EXPANDER_NULL);
+    SAME(expander_open_with(NULL, "a", 1, &options), EXPANDER_NULL);
     SAME(expander_open(&s, NULL, 1, 2024, 128, 0), EXPANDER_NULL);
     SAME(expander_open(NULL, "a", 1, 2024, 128, 0), EXPANDER_NULL);
     size_t huge = (size_t)1 << 32;
@@ -273,15 +309,17 @@ static size_t told(struct expander_session *s, uint8_t *into) {
     return n;
 }
 
-static void random_edits(int count) {
+static void random_edits(int count, uint32_t scope) {
+    const struct expander_options options = {2024, EXPANDER_GRAMMAR_RUST, scope, 128};
     static const char *const parts[] = {"x", " y", "(", ")", "{", "}", "p!{ x y }", "'a", "\"s\"", "1.0", ";", "\xc3\xa9", "//c\n",
-        "/// d\n", "macro_rules! q { ($($t:tt)*) => { $($t)* } }\n", "q!{ p!{ a b } }\n", "$", "#", "::", " "};
+        "/// d\n", "macro_rules! q { ($($t:tt)*) => { $($t)* } }\n", "q!{ p!{ a b } }\n",
+        "{ macro_rules! p { ($x:tt $y:tt) => { $y } } p!{ c d } }\n", "$", "#", "::", " "};
     static _Alignas(8) uint8_t one[1 << 20], other[1 << 20];
     static char text[1 << 16], good[1 << 16];
     struct expander_session s = EXPANDER_SESSION_INIT;
     int read = 0;
     bool is_read = true;
-    SAME(open_text(&s, TEXT "\n"), EXPANDER_OK);
+    SAME(expander_open_with(&s, TEXT "\n", strlen(TEXT "\n"), &options), EXPANDER_OK);
     for (int i = 0; i < count; i++) {
         size_t len;
         SAME(expander_text(&s, text, sizeof text, &len), EXPANDER_OK);
@@ -298,7 +336,7 @@ static void random_edits(int count) {
         size_t n = told(&s, one);
         SAME(expander_text(&s, text, sizeof text, &len), EXPANDER_OK);
         struct expander_session fresh = EXPANDER_SESSION_INIT;
-        SAME(expander_open(&fresh, text, len, 2024, 128, EXPANDER_GRAMMAR_RUST), EXPANDER_OK);
+        SAME(expander_open_with(&fresh, text, len, &options), EXPANDER_OK);
         SAME(told(&fresh, other), n);
         SAME(memcmp(one, other, n), 0);
         is_read = one[0] == EXPANDER_OK, read += is_read;
@@ -312,9 +350,11 @@ static void random_edits(int count) {
 int main(int argc, char **argv) {
     the_row();
     grammars();
+    scopes();
     codes();
     sources();
-    random_edits(argc > 1 ? atoi(argv[1]) : 1000);
+    for (uint32_t scope = EXPANDER_SCOPE_TOP; scope <= EXPANDER_SCOPE_RUST; scope++)
+        random_edits(argc > 1 ? atoi(argv[1]) : 1000, scope);
     if (failures) printf("%d failures\n", failures);
     return failures != 0;
 }

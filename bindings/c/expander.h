@@ -16,8 +16,8 @@
  * Memory. Each function below says what its pointers are to. In all of them:
  *   - The memory is there, and initialised, until the call returns: room that is only written to as well,
  *     with anything, as by calloc. No call keeps a pointer that it is passed, and none hands one out.
- *   - It is aligned as C aligns its type: bytes anywhere, numbers, ranges, faults and picks at 4, sessions,
- *     counts, lengths and what is told of a source at 8.
+ *   - It is aligned as C aligns its type: bytes anywhere, numbers, ranges, faults, picks and options at 4,
+ *     sessions, counts, lengths and what is told of a source at 8.
  *   - No two pointers of a call overlap, and nobody else writes what they are to during the call, nor
  *     reads what it writes. No element is read or written beyond the length that is said.
  *   - A pointer with a length may be NULL if the length is 0. Any other pointer that is NULL is refused.
@@ -88,7 +88,8 @@ enum expander_code {
     EXPANDER_ROOM = 14,    /* there is not enough room; nothing was written to it */
     EXPANDER_NULL = 15,    /* a pointer is NULL, and not to be */
     EXPANDER_ROOT = 16,    /* the word cannot stand for a crate */
-    EXPANDER_SOURCE = 17   /* there is no source of this number, or, of number 0, there can be none */
+    EXPANDER_SOURCE = 17,  /* there is no source of this number, or, of number 0, there can be none */
+    EXPANDER_SCOPE = 18    /* there are no such rules of scopes */
 };
 
 /* What fragments such as `$e:expr` take. The grammar of Rust, in the edition of the session, knows all
@@ -96,6 +97,14 @@ enum expander_code {
 enum expander_grammar {
     EXPANDER_GRAMMAR_SMALL = 0,
     EXPANDER_GRAMMAR_RUST = 1
+};
+
+/* Which definitions a name can find. By the rules of Rust's textual scope those of the lists around the call come
+ * first: of a block, a module, a result; and the `;` behind an item's call goes with the call. By those of the top level
+ * there are only those that are pieces of a text, and each `;` stays. */
+enum expander_scope {
+    EXPANDER_SCOPE_TOP = 0,
+    EXPANDER_SCOPE_RUST = 1
 };
 
 enum expander_fault_kind {
@@ -110,6 +119,13 @@ enum expander_reading_fault_kind {
     EXPANDER_BAD_TOKEN = 0,
     EXPANDER_CLOSER_DOES_NOT_FIT = 1,
     EXPANDER_GROUP_LEFT_OPEN = 2
+};
+
+/* What a session is opened with: an edition, 2015, 2018, 2021 or 2024; a grammar and rules of scopes, of the enums
+ * above; and how many levels of calls are expanded. */
+struct expander_options {
+    uint32_t edition, grammar, scope;
+    uint8_t depth;
 };
 
 /* The bytes of a text from `start` up to, but not including, `end`. */
@@ -147,6 +163,7 @@ struct expander_pick {
 /* The calls as the library exports them. Here no pointer may be NULL, also if there are no elements: it
  * is then any that is aligned. C callers use the functions below, which test that. */
 uint32_t expander_raw_open(struct expander_session *, const uint8_t *, size_t, uint32_t, uint8_t, uint32_t);
+uint32_t expander_raw_open_with(struct expander_session *, const uint8_t *, size_t, const struct expander_options *);
 void expander_raw_close(struct expander_session *);
 uint32_t expander_raw_text(struct expander_session *, uint8_t *, size_t, size_t *);
 uint32_t expander_raw_is_boundary(struct expander_session *, size_t);
@@ -169,13 +186,21 @@ uint32_t expander_raw_sources(struct expander_session *, uint32_t *, size_t);
 /* Opens a session over a copy of the text, in place of what the struct holds, which is closed.
  * `text` is to `len` bytes, which are only read.
  * `edition` is 2015, 2018, 2021 or 2024; `depth` is how many levels of calls are expanded (the program
- * `expand` takes 128); `grammar` is one of the enum above. Nothing is expanded yet. If it is refused, what
- * the struct held stays open.
+ * `expand` takes 128); `grammar` is one of the enum above. Names find pieces of texts alone, as by
+ * EXPANDER_SCOPE_TOP. Nothing is expanded yet. If it is refused, what the struct held stays open.
  * OK, EDITION, GRAMMAR, LENGTH, UTF8, MEMORY, NULL. */
 static inline uint32_t expander_open(struct expander_session *s, const void *text, size_t len, uint32_t edition,
                                      uint8_t depth, uint32_t grammar) {
     if (!s || (!text && len)) return EXPANDER_NULL;
     return expander_raw_open(s, text ? (const uint8_t *)text : (const uint8_t *)"", len, edition, depth, grammar);
+}
+
+/* The same by all options: `options` is to one struct, which is only read.
+ * OK, EDITION, GRAMMAR, SCOPE, LENGTH, UTF8, MEMORY, NULL. */
+static inline uint32_t expander_open_with(struct expander_session *s, const void *text, size_t len,
+                                          const struct expander_options *options) {
+    if (!s || !options || (!text && len)) return EXPANDER_NULL;
+    return expander_raw_open_with(s, text ? (const uint8_t *)text : (const uint8_t *)"", len, options);
 }
 
 /* Closes the session and frees all that it holds. Nothing happens if there is none. */

@@ -42,7 +42,7 @@ void __wrap_free(void *p) {
 
 /* ---- the script */
 
-/* SOURCE reads a source of number `start`, of the crate `std` if `end` is not 0; PRELUDE picks all of that number. */
+/* OPEN opens by the rules of scopes `start`. SOURCE reads a source of number `start`, of the crate `std` if `end` is not 0; PRELUDE picks all of that number. */
 enum call { OPEN, EDIT, EXPAND, SOURCE, PRELUDE };
 struct step {
     enum call call;
@@ -69,6 +69,8 @@ static const struct step script[] = {
     {EXPAND, 0, 0, ""},
     {EDIT, 16, 16, " broken"},
     {EXPAND, 0, 0, ""},
+    {OPEN, EXPANDER_SCOPE_RUST, 0, "fn f() { macro_rules! m { ($t:tt) => { macro_rules! n { () => { $t } } } } m!{1} n!{} { m!{2} n!{} } }"},
+    {EXPAND, 0, 0, ""},
     {OPEN, 0, 0, ""},
     {EXPAND, 0, 0, ""},
     {OPEN, 0, 0, "v!(1); w!(2);"},
@@ -87,8 +89,9 @@ static uint32_t make(struct expander_session *s, const struct step *it) {
     size_t len = strlen(it->text);
     struct expander_source_told told = {0, {0, {0, 0}}};
     struct expander_pick all = {(uint32_t)it->start, EXPANDER_ALL};
+    struct expander_options options = {2024, EXPANDER_GRAMMAR_RUST, (uint32_t)it->start, 128};
     switch (it->call) {
-    case OPEN: return expander_open(s, it->text, len, 2024, 128, EXPANDER_GRAMMAR_RUST);
+    case OPEN: return expander_open_with(s, it->text, len, &options);
     case EDIT: return expander_edit(s, it->start, it->end, it->text, len);
     case SOURCE: return expander_source(s, all.source, "std", it->end ? 3 : 0, 2018, it->text, len, &told);
     case PRELUDE: return expander_prelude(s, &all, 1);

@@ -58,6 +58,18 @@ def grammars():
     assert [fault.kind for fault in Session(text, grammar=Grammar.SMALL).expand().faults] == [FaultKind.CANNOT_EXPAND]
 
 
+def scopes():
+    text = "fn f() { macro_rules! m { () => { 1 } } m!{} }"
+    kinds = [fault.kind for fault in Session(text).expand().faults]
+    assert kinds == [fault.kind for fault in Session(text, scope="top").expand().faults] == [FaultKind.NESTED_DEFINITION]
+    expansion = Session(text, scope="rust").expand()
+    assert expansion.printed == "fn f ( ) { 1 }\n" and not expansion.faults
+    assert all(raises(ValueError, Session, text, scope=bad) for bad in ("", "Rust", "list"))
+    assert all(raises(TypeError, Session, text, scope=bad) for bad in (0, None, b"rust", True))
+    never, options = Session.__new__(Session), expander._Options(2024, Grammar.RUST, 2, 128)
+    assert refusal(never._call, "open_with", b"", 0, ctypes.byref(options)) == Code.SCOPE
+
+
 def codes():
     assert refusal(Session, "a", 2020) == Code.EDITION
     assert refusal(Session, "a", 2024, 128, 2) == Code.GRAMMAR
@@ -342,7 +354,7 @@ def random_edits(count):
     assert read >= count // 3
 
 
-for check in (the_row, grammars, codes, sources, items, numbers, once, shared, meanwhile, within, left):
+for check in (the_row, grammars, scopes, codes, sources, items, numbers, once, shared, meanwhile, within, left):
     check()
 random_edits(int(sys.argv[1]) if len(sys.argv) > 1 else 1000)
 sys.exit(doctest.testmod(expander).failed)

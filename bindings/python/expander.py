@@ -44,6 +44,7 @@ class Code(IntEnum):
     ROOM = 14
     ROOT = 16
     SOURCE = 17
+    SCOPE = 18
 
 
 class Grammar(IntEnum):
@@ -283,6 +284,11 @@ class _SourceTold(ctypes.Structure):
     _fields_ = [("definitions", ctypes.c_size_t), ("fault", _Fault)]
 
 
+class _Options(ctypes.Structure):
+    _fields_ = [(name, ctypes.c_uint32) for name in ("edition", "grammar", "scope")]
+    _fields_ += [("depth", ctypes.c_uint8)]
+
+
 class _Counts(ctypes.Structure):
     _fields_ = [(name, ctypes.c_size_t) for name in ("printed", "tokens", "faults", "expanded")]
 
@@ -293,7 +299,7 @@ def _load() -> ctypes.CDLL:
     session, size, u32 = ctypes.POINTER(_Session), ctypes.c_size_t, ctypes.c_uint32
     text, numbers = ctypes.c_char_p, ctypes.c_void_p
     for name, arguments in {
-        "open": [text, size, u32, ctypes.c_uint8, u32],
+        "open_with": [text, size, ctypes.POINTER(_Options)],
         "close": [],
         "text": [text, size, ctypes.POINTER(size)],
         "is_boundary": [size],
@@ -319,6 +325,9 @@ def _load() -> ctypes.CDLL:
 _library = _load()
 
 
+# The rules of scopes, by their names.
+_SCOPES = {"top": 0, "rust": 1}
+
 # The index that stands for all definitions of a source.
 _ALL = 2**32 - 1
 
@@ -341,8 +350,25 @@ def _size(name: str, value: int) -> int:
     return _number(name, value, 64)
 
 
+def _scope(name: str) -> int:
+    """The number of the rules of scopes that a name is of."""
+    if not isinstance(name, str):
+        raise TypeError("scope is no str")
+    if name not in _SCOPES:
+        raise ValueError(f"scope is none of {', '.join(_SCOPES)}")
+    return _SCOPES[name]
+
+
 class Session:
     """A text that may be edited and expanded.
+
+    A name finds the definitions that are pieces of the text, and of the sources of its prelude:
+    that is the scope "top". By "rust" it first finds those of the lists around the call, as of a
+    block or a module, by Rust's textual scope, and the `;` behind an item's call goes with the call.
+
+    >>> with Session("fn f() { macro_rules! m { () => { 1 } } m!() }", scope="rust") as session:
+    ...     session.expand().printed
+    'fn f ( ) { 1 }\\n'
 
     Threads may share a session. One call of it runs at a time, and that of another thread waits,
     `close` too. A call that begins within another of its own thread, as in a signal handler, raises
@@ -365,16 +391,21 @@ class Session:
         return self
 
     def __init__(
-        self, text: str, edition: int = 2024, depth: int = 128, grammar: int = Grammar.RUST
+        self,
+        text: str,
+        edition: int = 2024,
+        depth: int = 128,
+        grammar: int = Grammar.RUST,
+        scope: str = "top",
     ) -> None:
         data = str.encode(text)
         edition, depth = _number("edition", edition, 32), _number("depth", depth, 8)
-        grammar = _number("grammar", grammar, 32)
+        options = _Options(edition, _number("grammar", grammar, 32), _scope(scope), depth)
         with self._turn():
             if self._is_begun:
                 raise RuntimeError("a session is opened once")
             self._is_begun = True
-            self._call("open", data, len(data), edition, depth, grammar)
+            self._call("open_with", data, len(data), ctypes.byref(options))
 
     def __reduce_ex__(self, protocol: object) -> NoReturn:
         raise TypeError("a session can be neither copied nor pickled: open one over its text")

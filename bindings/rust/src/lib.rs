@@ -44,6 +44,35 @@ pub enum Grammar {
     Rust = 1,
 }
 
+/// Which definitions a name can find.
+#[derive(Clone, Copy, Debug, Default, PartialEq, Eq, Hash)]
+pub enum Scope {
+    /// Those that are pieces of a text.
+    #[default]
+    Top = 0,
+    /// Those of the lists around the call, by Rust's textual scope, and then those. The `;` behind an
+    /// item's call goes with the call.
+    Rust = 1,
+}
+
+/// What a session is opened with. By default that is the grammar of Rust, edition 2024, the scope of
+/// the top level, and 128 levels of calls.
+#[derive(Clone, Copy, Debug, PartialEq, Eq, Hash)]
+pub struct Options {
+    pub grammar: Grammar,
+    pub edition: Edition,
+    pub scope: Scope,
+    /// How many levels of calls are expanded.
+    pub depth: u8,
+}
+
+impl Default for Options {
+    fn default() -> Options {
+        let (grammar, scope) = (Grammar::default(), Scope::default());
+        Options { grammar, edition: Edition::Edition2024, scope, depth: 128 }
+    }
+}
+
 /// The kind of a fault.
 #[derive(Clone, Copy, Debug, PartialEq, Eq, Hash)]
 pub enum FaultKind {
@@ -190,7 +219,8 @@ unsafe impl Send for Session {}
 
 impl Session {
     /// A session over a copy of the text, with the grammar of Rust. `depth` is how many levels of
-    /// calls are expanded. Nothing is expanded yet.
+    /// calls are expanded. Names find pieces of texts alone, as by `Scope::Top`. Nothing is expanded
+    /// yet.
     pub fn new(text: &str, edition: Edition, depth: u8) -> Result<Session, Error> {
         Session::with_grammar(text, Grammar::Rust, edition, depth)
     }
@@ -211,13 +241,28 @@ impl Session {
         edition: Edition,
         depth: u8,
     ) -> Result<Session, Error> {
+        Session::with_options(text, Options { grammar, edition, depth, ..Options::default() })
+    }
+
+    /// The same by all options.
+    ///
+    /// ```
+    /// # use filgordd::{Options, Reply, Scope, Session};
+    /// let text = "fn f() { macro_rules! m { () => { 1 } } m!() }";
+    /// let mut session = Session::with_options(text, Options { scope: Scope::Rust, ..Options::default() })?;
+    /// let Reply::Read(expansion) = session.expand()? else { panic!("it is read") };
+    /// assert_eq!(expansion.printed(), "fn f ( ) { 1 }\n");
+    /// # Ok::<(), filgordd::Error>(())
+    /// ```
+    pub fn with_options(text: &str, options: Options) -> Result<Session, Error> {
         let held = std::ptr::null_mut();
         let raw = UnsafeCell::new(sys::Session { held });
         let session = Session { raw };
-        let (edition, grammar) = (edition as u32, grammar as u32);
-        // SAFETY: the struct holds no session, and the bytes are those of a `&str`.
+        let (edition, grammar) = (options.edition as u32, options.grammar as u32);
+        let options = sys::Options { edition, grammar, scope: options.scope as u32, depth: options.depth };
+        // SAFETY: the struct holds no session, the bytes are those of a `&str`, and the options are there.
         checked(unsafe {
-            sys::expander_raw_open(session.at(), text.as_ptr(), text.len(), edition, depth, grammar)
+            sys::expander_raw_open_with(session.at(), text.as_ptr(), text.len(), &options)
         })?;
         Ok(session)
     }

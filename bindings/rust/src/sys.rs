@@ -42,14 +42,21 @@ pub struct Pick {
     pub index: u32,
 }
 
+#[repr(C)]
+#[derive(Clone, Copy, Debug)]
+pub struct Options {
+    pub edition: u32,
+    pub grammar: u32,
+    pub scope: u32,
+    pub depth: u8,
+}
+
 unsafe extern "C" {
-    pub fn expander_raw_open(
+    pub fn expander_raw_open_with(
         s: *mut Session,
         text: *const u8,
         len: usize,
-        edition: u32,
-        depth: u8,
-        grammar: u32,
+        options: *const Options,
     ) -> u32;
     pub fn expander_raw_close(s: *mut Session);
     pub fn expander_raw_text(s: *mut Session, room: *mut u8, len: usize, wanted: *mut usize) -> u32;

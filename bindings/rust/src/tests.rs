@@ -43,6 +43,16 @@ fn grammars() {
 }
 
 #[test]
+fn scopes() {
+    let text = "fn f() { macro_rules! m { () => { 1 } } m!{} }";
+    assert_eq!(read(&mut open(text)).faults().len(), 1);
+    for (scope, faults) in [(Scope::Top, 1), (Scope::Rust, 0)] {
+        let session = Session::with_options(text, Options { scope, ..Options::default() });
+        assert_eq!(read(&mut session.expect("it is opened")).faults().len(), faults);
+    }
+}
+
+#[test]
 fn refusals() {
     let mut session = open("é;");
     assert_eq!([0, 1, 2, 3, 4].map(|at| session.is_boundary(at)), [true, false, true, true, false]);
@@ -92,9 +102,11 @@ fn codes() {
     let (at, mut none) = (session.at(), 0);
     // SAFETY: each pointer is to as much as is said.
     unsafe {
-        assert_eq!(sys::expander_raw_open(at, "a".as_ptr(), 1, 2020, 0, 0), 8);
-        assert_eq!(sys::expander_raw_open(at, "a".as_ptr(), 1, 2024, 0, 2), 9);
-        assert_eq!(sys::expander_raw_open(at, b"\xff".as_ptr(), 1, 2024, 0, 0), 6);
+        let options = sys::Options { edition: 2024, grammar: 0, scope: 0, depth: 0 };
+        assert_eq!(sys::expander_raw_open_with(at, "a".as_ptr(), 1, &sys::Options { edition: 2020, ..options }), 8);
+        assert_eq!(sys::expander_raw_open_with(at, "a".as_ptr(), 1, &sys::Options { grammar: 2, ..options }), 9);
+        assert_eq!(sys::expander_raw_open_with(at, "a".as_ptr(), 1, &sys::Options { scope: 2, ..options }), 18);
+        assert_eq!(sys::expander_raw_open_with(at, b"\xff".as_ptr(), 1, &options), 6);
         assert_eq!(session.text(), "a;");
         assert_eq!(sys::expander_raw_fits(at, 0, 0, usize::MAX), 7);
         assert_eq!(sys::expander_raw_edit(at, 0, 0, b"\xff".as_ptr(), 1), 6);

@@ -1,5 +1,6 @@
 -- What is found out about attributes: whether they keep a piece, and the first that is not read.
-use Rattle.std.specs.Prelude.{ℕ, suc, ◌+◌, ◌<◌, Bool, true, false, ◌&&◌, List, [], ◌∷◌, Option, Some, None, codes, if◌then◌else◌}
+use Rattle.std.specs.Prelude.{ℕ, suc, ◌+◌, ◌<◌, Bool, true, false, ◌&&◌, List, [], ◌∷◌, Option}
+use Rattle.std.specs.Prelude.{Some, None, codes, if◌then◌else◌}
 use Rattle.tt_data.specs.Forest.{Forest, empty, size}
 use Rattle.tt_data.specs.declared.span.Span.{Span}
 use Rattle.small_grammar.specs.Text.{is_empty}

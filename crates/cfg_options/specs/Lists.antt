@@ -7,7 +7,8 @@ use Rattle.tt_data.specs.declared.leaf.Leaf.TheVariants as as_leaf
 use Rattle.tt_data.specs.declared.delimiter.DelimiterKind.TheVariants.{Bracket}
 use Rattle.tt.specs.FirstTrees.{first_group, first_ident, first_punct}
 use Rattle.bridge.specs.Text.{is_char, same_kind}
-use Rattle.textual_scope.specs.Conditions.{behind_colons, is_bodied, is_extern_block, is_short, is_whole_call}
+use Rattle.textual_scope.specs.Conditions.{behind_colons, is_bodied, is_extern_block}
+use Rattle.textual_scope.specs.Conditions.{is_short, is_whole_call}
 use Rattle.small_grammar.specs.Text.{◌>>=◌, ◌>>◌}
 
 -- a comma is at the beginning

@@ -1,6 +1,7 @@
 -- Attributes of conditional compilation that are not read: what is there is no predicate. They
 -- leave in what they stand at.
-use Rattle.std.specs.Prelude.{ℕ, zero, suc, Bool, false, ◌&&◌, not, List, [], ◌∷◌, Option, Some, None, is_some, unwrap_or, codes, if◌then◌else◌}
+use Rattle.std.specs.Prelude.{ℕ, zero, suc, Bool, false, ◌&&◌, not, List, [], ◌∷◌, Option, Some}
+use Rattle.std.specs.Prelude.{None, is_some, unwrap_or, codes, if◌then◌else◌}
 use Rattle.tt_data.specs.Forest.{Forest, leaf, group, size}
 use Rattle.tt_data.specs.Literals.{LiteralParts}
 use Rattle.tt_data.specs.declared.delimiter.DelimiterKind.TheVariants.{Bracket}

@@ -1,5 +1,6 @@
 -- The lists that are open while a predicate is read, and what they give.
-use Rattle.std.specs.Prelude.{ℕ, ◌+◌, ◌<◌, ◌≤◌, Bool, true, false, codes, List, [], ◌∷◌, Option, option_map}
+use Rattle.std.specs.Prelude.{ℕ, ◌+◌, ◌<◌, ◌≤◌, Bool, true, false, codes, List}
+use Rattle.std.specs.Prelude.{[], ◌∷◌, Option, option_map}
 use Rattle.tt_data.specs.Forest.{Forest, empty, size}
 use Rattle.small_grammar.specs.Text.{◌>>=◌}
 use Rattle.expander_model.specs.Definitions.{or_else}

@@ -1,5 +1,5 @@
 -- Which options a set of them has.
-use Rattle.std.specs.Prelude.{ℕ, Bool, true, false, ◌&&◌, List, Option, Some, None, option_map}
+use Rattle.std.specs.Prelude.{◌≡◌, ℕ, Bool, true, false, ◌&&◌, List, Option, Some, None, option_map}
 use Rattle.std.specs.List.{list_any}
 use Rattle.small_grammar.specs.Text.{same_text}
 use Rattle.textual_scope.specs.Conditions.{Options}
@@ -20,6 +20,12 @@ is_option name value o =
 -- the options that are set
 unfoldable pub options_of : CfgOptions → Options
 options_of o name value = list_any (is_option name value) o.set.keys
+
+-- the same options are set
+abbrev pub SameOptions : CfgOptions → CfgOptions → Type 0
+SameOptions old new =
+    (name : List ℕ) (value : Option (List ℕ)) →
+    options_of new name value ≡ options_of old name value
 
 -- its name and value
 abbrev pub written : CfgOption → List ℕ × Option (List ℕ)

@@ -1,5 +1,6 @@
 -- The parts of a list between commas, and the value of a list of predicates from the left.
-use Rattle.std.specs.Prelude.{Bool, ◌&&◌, ◌||◌, not, List, [], ◌∷◌, Option, Some, None, if◌then◌else◌}
+use Rattle.std.specs.Prelude.{Bool, ◌&&◌, ◌||◌, not, List, [], ◌∷◌, Option}
+use Rattle.std.specs.Prelude.{Some, None, if◌then◌else◌}
 use Rattle.tt_data.specs.Forest.{Forest, empty, leaf, group}
 use Rattle.bridge.specs.Text.{is_punct}
 use Rattle.small_grammar.specs.Text.{◌>>=◌}

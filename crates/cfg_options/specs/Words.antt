@@ -1,5 +1,6 @@
 -- Words of a command line: what `rustc --cfg` takes without an edition.
-use Rattle.std.specs.Prelude.{◌≡◌, ◌⊎◌, ℕ, ◌≤◌, ◌^◌, ◌&&◌, ◌||◌, List, length, Option, Some, None, Result, Ok, Err}
+use Rattle.std.specs.Prelude.{◌≡◌, ◌⊎◌, ℕ, ◌≤◌, ◌^◌, ◌&&◌, ◌||◌, List, length, Option}
+use Rattle.std.specs.Prelude.{Some, None, Result, Ok, Err}
 use Rattle.tt_data.specs.Forest.{Forest}
 use Rattle.bridge.specs.ReadText.{HasTooMany}
 use Rattle.bridge.specs.Reading.{reading}

@@ -2,7 +2,10 @@
 //! recursion: the lists of a `cfg_attr` are in memory.
 ghost use Rattle.std.specs.Prelude.{◌≡◌, ◌+◌, ◌≤◌, Option, codes, IfOk, IfSome};
 ghost use Rattle.tt_data.specs.Forest.{empty, size};
-ghost use Rattle.cfg_options.specs.Attributes.{IsLater, and_also, first_value, found_at, found_before, found_inside, found_next, found_of_cfg, found_of_cfg_attr, found_of_other, found_waiting, only_value, tokens_waiting};
+ghost use Rattle.cfg_options.specs.Attributes.{IsLater, and_also, first_value, found_at};
+ghost use Rattle.cfg_options.specs.Attributes.{found_before, found_inside, found_next};
+ghost use Rattle.cfg_options.specs.Attributes.{found_of_cfg, found_of_cfg_attr, found_of_other};
+ghost use Rattle.cfg_options.specs.Attributes.{found_waiting, only_value, tokens_waiting};
 ghost use Rattle.cfg_options.specs.Lists.{first_attribute};
 ghost use Rattle.cfg_options.specs.Misread.{begins_with_colon, span_of_name};
 ghost use Rattle.cfg_options.specs.Parts.{after_part};

@@ -4,7 +4,11 @@ ghost use Rattle.tt_data.specs.Forest.{empty, leaf};
 ghost use Rattle.tt_data.specs.Lent.{ident_lent, leaf_lent};
 ghost use Rattle.tt_data.specs.declared.leaf.Leaf.TheVariants as as_leaf;
 ghost use Rattle.expander_model.specs.Definitions.{is_semicolon};
-ghost use Rattle.textual_scope.specs.Conditions.{after_call, after_path, after_qualifiers, begins_with, behind_colons, ends_in_body, ends_in_semicolon, is_bodied, is_end, is_extern_block, is_path_call, is_short, is_whole_call, is_whole_item, opened_after};
+ghost use Rattle.textual_scope.specs.Conditions.{after_call, after_path, after_qualifiers};
+ghost use Rattle.textual_scope.specs.Conditions.{begins_with, behind_colons, ends_in_body};
+ghost use Rattle.textual_scope.specs.Conditions.{ends_in_semicolon, is_bodied, is_end};
+ghost use Rattle.textual_scope.specs.Conditions.{is_extern_block, is_path_call, is_short};
+ghost use Rattle.textual_scope.specs.Conditions.{is_whole_call, is_whole_item, opened_after};
 ghost use Rattle.expander_model.specs.Calls.{is_colons};
 ghost use Rattle.cfg_options.specs.Lists.{behind_name, is_char_of, is_item};
 

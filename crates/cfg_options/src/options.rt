@@ -1,6 +1,7 @@
 //! The options that are set.
-ghost use Rattle.std.specs.Prelude.{◌≡◌, ◌||◌, ℕ, Bool, List, Option, Some, None, false, option_map, OnOk, OnErr};
-ghost use Rattle.cfg_options.specs.Options.{is_option, options_of};
+ghost use Rattle.std.specs.Prelude.{◌≡◌, ◌||◌, ℕ, Bool, List, Option, Some, None};
+ghost use Rattle.std.specs.Prelude.{false, option_map, OnOk, OnErr};
+ghost use Rattle.cfg_options.specs.Options.{SameOptions, is_option, options_of};
 
 use std::alloc::{AllocError, Global};
 use std::collections::HashSet;
@@ -45,8 +46,7 @@ impl CfgOptions {
         ensures ok { OnOk result ((name : List ℕ) (value : Option (List ℕ)) →
             options_of self.new name value
             ≡ (is_option name value option || options_of self.old name value)) }
-        ensures err { OnErr result ((name : List ℕ) (value : Option (List ℕ)) →
-            options_of self.new name value ≡ options_of self.old name value) }
+        ensures err { OnErr result (SameOptions self.old self.new) }
     {
         let _ = self.set.insert(option)?;
         Ok(())

@@ -4,7 +4,8 @@ ghost use Rattle.tt_data.specs.Forest.{Forest, empty};
 ghost use Rattle.textual_scope.specs.Conditions.{predicate_value};
 ghost use Rattle.cfg_options.specs.Options.{options_of};
 ghost use Rattle.cfg_options.specs.Parts.{ended, open_value, with_value};
-ghost use Rattle.cfg_options.specs.OpenLists.{IsLess, IsWithin, list_of, lists_value, turn_value, value_around, value_under, weight, whole_value};
+ghost use Rattle.cfg_options.specs.OpenLists.{IsLess, IsWithin, list_of, lists_value, turn_value};
+ghost use Rattle.cfg_options.specs.OpenLists.{value_around, value_under, weight, whole_value};
 ghost use Rattle.cfg_options.specs.Strings.{string_text};
 
 use crate::options::CfgOptions;

@@ -1,8 +1,8 @@
 //! Words of a command line, as `rustc --cfg` takes them, and what they set.
-ghost use Rattle.std.specs.Prelude.{◌≡◌, ◌<◌, ◌^◌, ℕ, List, Option, IfErr, IfOk, OnErr, OnOk, length, option_map};
+ghost use Rattle.std.specs.Prelude.{◌≡◌, ◌<◌, ◌^◌, IfErr, IfOk, OnErr, OnOk, length, option_map};
 ghost use Rattle.bridge.specs.ReadText.{IsRead, IsReadRefusal};
 ghost use Rattle.bridge.specs.TokenSteps.{text_steps};
-ghost use Rattle.cfg_options.specs.Options.{options_of, written};
+ghost use Rattle.cfg_options.specs.Options.{SameOptions, options_of, written};
 ghost use Rattle.cfg_options.specs.Words.{IsRefusal, Sets, option_of};
 
 use crate::fault::CfgFault;
@@ -49,8 +49,7 @@ impl CfgOptions {
     pub fn push(&mut self, word: &str) -> Result<(), CfgFault>
         ensures sets { OnOk result (Sets (option_of word.now) (options_of self.old)
             (options_of self.new)) }
-        ensures same { OnErr result ((name : List ℕ) (value : Option (List ℕ)) →
-            options_of self.new name value ≡ options_of self.old name value) }
+        ensures same { OnErr result (SameOptions self.old self.new) }
         ensures fault { IfErr result (IsRefusal word.now) }
     {
         if word.len() > u32::MAX as usize {

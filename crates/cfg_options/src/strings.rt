@@ -1,8 +1,12 @@
 //! What string literals stand for. (The Rust Reference, "Tokens": string literals.)
-ghost use Rattle.std.specs.Prelude.{◌≡◌, ◌<◌, ◌≤◌, ◌++◌, IfOk, IfSome, OnOk, encode_utf8, length, option_map};
+ghost use Rattle.std.specs.Prelude.{◌≡◌, ◌<◌, ◌≤◌, ◌++◌, IfOk, IfSome, OnOk};
+ghost use Rattle.std.specs.Prelude.{encode_utf8, length, option_map};
 ghost use Rattle.tt_data.specs.Lent.{literal_lent};
-ghost use Rattle.cfg_options.specs.Strings.{after_blanks, digits_value, escape, hex_escape, hex_value, is_blank, line_feed, plain, short_escape, starts_line, starts_with_byte, string_kind, string_text, unescaped, unicode_escape};
-ghost use Rattle.cfg_options.specs.StringSteps.{bytes_of, unit_and_rest, unit_at};
+ghost use Rattle.cfg_options.specs.Strings.{after_blanks, digits_value, escape, hex_escape};
+ghost use Rattle.cfg_options.specs.Strings.{hex_value, is_blank, line_feed, plain, short_escape};
+ghost use Rattle.cfg_options.specs.Strings.{starts_line, starts_with_byte, string_kind};
+ghost use Rattle.cfg_options.specs.Strings.{string_text, unescaped, unicode_escape};
+ghost use Rattle.cfg_options.specs.StringSteps.{LeavesLess, bytes_of, unit_and_rest, unit_at};
 
 use std::alloc::{AllocError, Global};
 use tt_data::{LitKind, LiteralRef};
@@ -45,7 +49,7 @@ fn short_escape(c: u8) -> Option<u8>
 // The byte of `\x7F`, behind its `x`, and the text after it.
 fn hex_escape(text: &[u8]) -> Option<(StringPart, &[u8])>
     ensures value { option_map unit_and_rest result ≡ hex_escape text.now }
-    ensures shorter { IfSome result (λ p. length p.1.now < length text.now) }
+    ensures shorter { LeavesLess text.now result }
 {
     let (first, more) = text.split_first()?;
     let (second, rest) = more.split_first()?;
@@ -62,7 +66,7 @@ fn hex_escape(text: &[u8]) -> Option<(StringPart, &[u8])>
 fn digits_value(first: u32, text: &[u8]) -> Option<(u32, &[u8])>
     requires { first < 16 }
     ensures value { option_map (λ p. (p.0, p.1.now)) result ≡ digits_value 5 first text.now }
-    ensures shorter { IfSome result (λ p. length p.1.now < length text.now) }
+    ensures shorter { LeavesLess text.now result }
 {
     let mut value = first;
     let mut count: u32 = 1;
@@ -88,7 +92,7 @@ fn digits_value(first: u32, text: &[u8]) -> Option<(u32, &[u8])>
 // The character of `\u{7FFF}`, behind its `u`, and the text after it.
 fn unicode_escape(text: &[u8]) -> Option<(StringPart, &[u8])>
     ensures value { option_map unit_and_rest result ≡ unicode_escape text.now }
-    ensures shorter { IfSome result (λ p. length p.1.now < length text.now) }
+    ensures shorter { LeavesLess text.now result }
 {
     let (brace, more) = text.split_first()?;
     let (first, digits) = more.split_first()?;
@@ -146,7 +150,7 @@ fn starts_line(text: &[u8]) -> bool
 // What a backslash and what follows it stand for, and the text after that.
 fn escape(text: &[u8]) -> Option<(StringPart, &[u8])>
     ensures value { option_map unit_and_rest result ≡ escape text.now }
-    ensures shorter { IfSome result (λ p. length p.1.now < length text.now) }
+    ensures shorter { LeavesLess text.now result }
 {
     let (c, rest) = text.split_first()?;
     if starts_line(text) {
@@ -178,7 +182,7 @@ fn plain(c: u8, rest: &[u8]) -> Option<StringPart>
 // What the text of a string begins with, and the text after that.
 fn first_unit(is_raw: bool, text: &[u8]) -> Option<(StringPart, &[u8])>
     ensures value { option_map unit_and_rest result ≡ unit_at is_raw text.now }
-    ensures shorter { IfSome result (λ p. length p.1.now < length text.now) }
+    ensures shorter { LeavesLess text.now result }
 {
     let (c, rest) = text.split_first()?;
     if !is_raw && *c == b'\\' {

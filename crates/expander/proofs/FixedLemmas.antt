@@ -24,6 +24,7 @@ use Rattle.bridge.specs.ReadsBack.{AreReadAs, IsReadAs, PrintsAgain, ReadsBack}
 use Rattle.bridge.specs.Spelling.{root_name, same_leaf, same_rawness, spelled_leaf}
 use Rattle.bridge.proofs.RootLemmas.{named}
 use Rattle.bridge.specs.TokenSteps.{text_reading, text_steps}
+use Rattle.expander_model.specs.declared.dialect.Dialect.{Dialect}
 use Rattle.expander_model.specs.declared.fault.Fault.{Fault}
 use Rattle.expander_model.specs.declared.fault.FaultKind.TheVariants.{NestedDefinition}
 use Rattle.expander_model.specs.Expansion.{PlacedStep, placed}
@@ -39,8 +40,8 @@ use Rattle.expander_model.specs.Printing.{PrintedToken, bare, left_out, spelling
 use Rattle.expander.proofs.ForestLemmas.{AreWalked, steps_of-placed, walked_members}
 use Rattle.expander_session.proofs.PrintingLemmas.{text_is, tokens_bare, visible_bare}
 use Rattle.expander.proofs.QuietLemmas.{quiet_text}
-use Rattle.expander.proofs.SearchLemmas.{plain_output}
-use Rattle.expander_session.proofs.WordLemmas.{quiet_plain, is_quiet}
+use Rattle.expander.proofs.SearchLemmas.{wordless_output}
+use Rattle.expander_session.proofs.WordLemmas.{quiet_plain, quiet_separated, is_quiet}
 
 -- ---- no fault at all
 
@@ -163,7 +164,7 @@ module _ (text : List ℕ) (f : Forest) (p : IsPrintedOf text f) where
   here = placed None (walk f)
 
   output_is : (given : Layers) (depth : ℕ) → flat_map output_of (members given depth f) ≡ here
-  output_is given depth = plain_output given depth (separated f) all_plain ∙ ap (λ g. placed None (walk g)) p.separate
+  output_is given depth = wordless_output given depth (separated f) (quiet_separated f p.quiet) ∙ ap (λ g. placed None (walk g)) p.separate
 
   left_out_here : left_out spelling_before (visible here) ≡ []
   left_out_here =
@@ -173,11 +174,11 @@ module _ (text : List ℕ) (f : Forest) (p : IsPrintedOf text f) where
   text_here : text_of (tokens_in here) ≡ text
   text_here = sym (text_is here) ∙ ap (λ ss. (print_of ss).text) (steps_of-placed None (walk f)) ∙ p.text_is
 
-  printed_itself : (grammar : Grammar) (edition : Edition) (depth : ℕ) → PrintsItself text (meaning_from (layers grammar edition) depth (Ok f))
-  printed_itself grammar edition depth = (
-    ap (λ ss. text_of (tokens_in ss)) (output_is (layers grammar edition) depth) ∙ text_here,
-    quiet_text (layers grammar edition) depth f p.quiet
-        (ap (λ ss. left_out spelling_before (visible ss)) (output_is (layers grammar edition) depth) ∙ left_out_here),
+  printed_itself : (grammar : Grammar) (edition : Edition) (dialect : Dialect) (depth : ℕ) → PrintsItself text (meaning_from (layers grammar edition dialect) depth (Ok f))
+  printed_itself grammar edition dialect depth = (
+    ap (λ ss. text_of (tokens_in ss)) (output_is (layers grammar edition dialect) depth) ∙ text_here,
+    quiet_text (layers grammar edition dialect) depth f p.quiet
+        (ap (λ ss. left_out spelling_before (visible ss)) (output_is (layers grammar edition dialect) depth) ∙ left_out_here),
   )
 
   pub fixed_point : IsFixedPoint text
@@ -185,8 +186,8 @@ module _ (text : List ℕ) (f : Forest) (p : IsPrintedOf text f) where
     trees = f;
     read = p.read;
     plain = all_plain;
-    again = λ grammar edition depth.
-        subst (λ r. PrintsItself text (meaning_from (layers grammar edition) depth r)) (sym p.read) (printed_itself grammar edition depth);
+    again = λ grammar edition dialect depth.
+        subst (λ r. PrintsItself text (meaning_from (layers grammar edition dialect) depth r)) (sym p.read) (printed_itself grammar edition dialect depth);
   }
 
 -- ---- what is printed without a fault
@@ -236,22 +237,22 @@ module _ (laws : ReadingLaws) (given : List PlacedStep) (walked : AreWalked give
   pub fixed_output : IsFixedPoint (text_of (tokens_in given))
   fixed_output = subst IsFixedPoint (sym (ap bare_printing.text_of tokens_are)) (fixed_point printed_text (laws.again walked.trees).forest printed_of)
 
-module _ (laws : ReadingLaws) (grammar : Grammar) (edition : Edition) (depth : ℕ) (initial : List Definition) where
+module _ (laws : ReadingLaws) (grammar : Grammar) (edition : Edition) (dialect : Dialect) (depth : ℕ) (initial : List Definition) where
   abbrev members_of : Forest → List Member
-  members_of f = members_in (layers grammar edition) depth initial f
+  members_of f = members_in (layers grammar edition dialect) depth initial f
 
   abbrev all_of : Forest → List PlacedStep
   all_of f = flat_map output_of (members_of f)
 
-  fixed_members : (f : Forest) → faults_of (layers grammar edition) (members_of f) ≡ [] → IsFixedPoint (text_of (tokens_in (all_of f)))
+  fixed_members : (f : Forest) → faults_of (layers grammar edition dialect) (members_of f) ≡ [] → IsFixedPoint (text_of (tokens_in (all_of f)))
   fixed_members f e =
-      let told : List Fault = flat_map (member_faults (layers grammar edition)) (members_of f) in
+      let told : List Fault = flat_map (member_faults (layers grammar edition dialect)) (members_of f) in
       let none = nothing_parted told _ (nothing_in_order _ e) in
       let first = nothing_parted (nested (tokens_in (all_of f))) _ none.1 in
-      fixed_output laws (all_of f) (walked_members (layers grammar edition) depth initial (pieces f)) first.0
+      fixed_output laws (all_of f) (walked_members (layers grammar edition dialect) depth initial (pieces f)) first.0
 
-  pub fixed_meaning : (r : Result Forest ReadFault) (m : ReadMeaning) → meaning_over (layers grammar edition) depth initial r ≡ Ok m → m.faults ≡ [] → IsFixedPoint m.text
+  pub fixed_meaning : (r : Result Forest ReadFault) (m : ReadMeaning) → meaning_over (layers grammar edition dialect) depth initial r ≡ Ok m → m.faults ≡ [] → IsFixedPoint m.text
   fixed_meaning (Err fault) m is e = cc
   fixed_meaning (Ok f) m is e =
-      let same : meaning_of (layers grammar edition) (members_of f) ≡ m = cc in
+      let same : meaning_of (layers grammar edition dialect) (members_of f) ≡ m = cc in
       subst (λ (n : ReadMeaning). IsFixedPoint n.text) same (fixed_members f (ap (λ (n : ReadMeaning). n.faults) same ∙ e))

@@ -8,6 +8,7 @@ use Rattle.expander_session.specs.Count.{Looked}
 use Rattle.expander_session.specs.Expanded.{Expanded}
 use Rattle.expander.specs.FixedPoint.{IsFixedPoint, PrintsItself, RepliesWith}
 use Rattle.expander_session.specs.Layered.{layers}
+use Rattle.expander_model.specs.declared.dialect.Dialect.{Dialect}
 use Rattle.expander_model.specs.Definitions.{Definition}
 use Rattle.expander_model.specs.Meaning.{ReadMeaning, meaning, meaning_in}
 use Rattle.expander_session.specs.Replies.{IsMeant, IsReplyIn, IsReplyTo}
@@ -27,12 +28,13 @@ printed_fixed (Err fault) e earlier fixed h none text is = absurd h
 printed_fixed (Ok m) e earlier fixed h none text is =
     subst IsFixedPoint (sym h.printed ∙ is) (fixed m refl (sym h.faults ∙ none))
 
-pub fixed_reply : ((grammar : Grammar) (edition : Edition) (depth : ℕ) (initial : List Definition) (text : List ℕ) (m : ReadMeaning) →
-    meaning_in (layers grammar edition) depth initial text ≡ Ok m → m.faults ≡ [] → IsFixedPoint m.text)
-    → (grammar : Grammar) (edition : Edition) (depth : ℕ) (initial : List Definition) (text : List ℕ) (earlier : Option (List Looked)) (e : Expanded)
-    → IsReplyIn (layers grammar edition) depth initial text earlier (Read e) → e.faults ≡ []
-    → (others : Grammar) (later : Edition) (levels : ℕ) (held : Option (List Looked)) (reply : Reply) → IsReplyTo (layers others later) levels e.printed held reply → RepliesWith e.printed reply
-fixed_reply fixed grammar edition depth initial text earlier e h none others later levels held reply answers =
+pub fixed_reply : ((grammar : Grammar) (edition : Edition) (dialect : Dialect) (depth : ℕ) (initial : List Definition) (text : List ℕ) (m : ReadMeaning) →
+    meaning_in (layers grammar edition dialect) depth initial text ≡ Ok m → m.faults ≡ [] → IsFixedPoint m.text)
+    → (grammar : Grammar) (edition : Edition) (dialect : Dialect) (depth : ℕ) (initial : List Definition) (text : List ℕ) (earlier : Option (List Looked)) (e : Expanded)
+    → IsReplyIn (layers grammar edition dialect) depth initial text earlier (Read e) → e.faults ≡ []
+    → (others : Grammar) (later : Edition) (rules : Dialect) (levels : ℕ) (held : Option (List Looked)) (reply : Reply)
+    → IsReplyTo (layers others later rules) levels e.printed held reply → RepliesWith e.printed reply
+fixed_reply fixed grammar edition dialect depth initial text earlier e h none others later rules levels held reply answers =
     let point : IsFixedPoint e.printed =
-    printed_fixed (meaning_in (layers grammar edition) depth initial text) e earlier (fixed grammar edition depth initial text) h none e.printed refl in
-    replied e.printed (meaning (layers others later) levels e.printed) reply held (point.again others later levels) answers
+    printed_fixed (meaning_in (layers grammar edition dialect) depth initial text) e earlier (fixed grammar edition dialect depth initial text) h none e.printed refl in
+    replied e.printed (meaning (layers others later rules) levels e.printed) reply held (point.again others later rules levels) answers

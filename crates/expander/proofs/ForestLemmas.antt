@@ -1,18 +1,28 @@
 -- The output of a text is the walk of a forest.
 use Rattle.std.proofs.Common.{◌≡◌, ℕ, zero, suc, List, [], ◌∷◌, ◌++◌, refl, ap, ◌∙◌, sym, Bool, true, false}
-use Rattle.std.specs.Prelude.{Option, Some, None, flat_map, unwrap_or}
+use Rattle.std.specs.Prelude.{Option, Some, None, flat_map, if◌then◌else◌, unwrap_or}
 use Rattle.std.proofs.lemmas.List.{map-append}
 use Rattle.tt_data.proofs.ForestLemmas.{walk-joined}
-use Rattle.tt_data.specs.Forest.{Forest, empty, leaf, group, joined}
+use Rattle.tt_data.specs.Forest.{Forest, empty, leaf, group, joined, size}
 use Rattle.tt_data.specs.Walk.{Step, at_leaf, opens, closes, walk}
 use Rattle.tt_data.specs.declared.delimiter.Delimiter.{Delimiter}
 use Rattle.tt_data.specs.declared.leaf.Ident.{Ident}
+use Rattle.tt_data.specs.declared.leaf.Punct.{Punct}
 use Rattle.tt_data.specs.declared.span.Span.{Span}
 use Rattle.expander_model.specs.Calls.{Path, bare, from_crate, other, Marked, none, token, inside, call, key_of, marked, unmarked}
 use Rattle.expander_model.specs.Definitions.{Definition, definition_of, nearest}
-use Rattle.expander_model.specs.Expansion.{PlacedStep, World, Outcome, Deeper, CallSite, placed, just, followed_by, grouped, fitted, at_level, unbroken, looked_up, at_call, before_group, whole_call, search_calls, expansion}
+use Rattle.expander_model.specs.Expansion.{PlacedStep, World, Outcome, CallSite, placed, just, grouped, faulted, before_group, whole_call}
 use Rattle.expander_model.specs.Meaning.{Layers, member, members_after, output_of, with_definition}
+use Rattle.expander_model.specs.PieceStates.{after_call, after_group, after_leaf, is_dropped}
+use Rattle.expander_model.specs.Pieces.{cut}
 use Rattle.expander_model.specs.Printing.{steps_of}
+use Rattle.expander_model.specs.declared.begun.Begun.{Begun}
+use Rattle.expander_model.specs.declared.begun.Begun.TheVariants.{Nothing}
+use Rattle.tt_data.specs.declared.leaf.Leaf.{Leaf}
+use Rattle.expander_model.specs.Scoping.{Around, Scoped, Search, definition_in, is_left_out, in_group, behind, without_locals, and_next, in_brackets, defined, fitted, at_level, unbroken, looked_up, at_key, at_call, kept_call, search_leaf, takes_end, search_trees, search_piece, search_pieces, search_list, scoped}
+use Rattle.expander_model.specs.declared.fault.FaultKind.TheVariants.{BrokenDefinition}
+use Rattle.expander_model.specs.declared.dialect.Dialect.{Dialect}
+use Rattle.expander_model.specs.declared.scope_rules.Standing.TheVariants.{Top, Argument}
 
 -- the steps are the walk of trees, their places aside
 pub record AreWalked (steps : List PlacedStep) : Type 0 where
@@ -42,69 +52,122 @@ walked_group outer d o a = record {
       (steps_of-append o.steps (placed outer (closes d.kind d.close_span ∷ [])) ∙ ap (λ l. l ++ closes d.kind d.close_span ∷ []) a.is);
 }
 
--- results are walked so
-abbrev AreDeeperWalked : {D : Type 0} → Deeper D → Type 0
-AreDeeperWalked None = Unit {0}
-AreDeeperWalked {D} (Some deeper) = (outer : Option Span) (f : Forest) → AreWalked (deeper outer f).steps
+module _ {D : Type 0} (dialect : Dialect) (world : World D) (local : Definition → D) (scope : List ℕ → Option D) where
+  -- results are walked so
+  abbrev IsWalked : Scoped D → Type 0
+  IsWalked a = AreWalked a.outcome.steps
 
-walked_fitted : {D : Type 0} → (deeper : Option Span → Forest → Outcome D) → ((outer : Option Span) (f : Forest) → AreWalked (deeper outer f).steps)
-    → (outer : Option Span) (site : CallSite) (r : Option Forest) → AreWalked (fitted deeper outer site r).steps
-walked_fitted deeper all outer site None = walked_trees outer site.whole
-walked_fitted deeper all outer site (Some g) = all (Some (unwrap_or outer site.at)) g
+  abbrev WalksBy : Search D → Type 0
+  WalksBy search = (around : Around) (f : Forest) → IsWalked (search around f)
 
-module _ {D : Type 0} (world : World D) (scope : List ℕ → Option D) where
-  walked_level : (d : D) (deeper : Deeper D) → AreDeeperWalked deeper → (outer : Option Span) (site : CallSite)
-      → AreWalked (at_level world d deeper outer site).steps
-  walked_level d None all outer site = walked_trees outer site.whole
-  walked_level d (Some deeper) all outer site =
-      let w = walked_fitted deeper all outer site (world.fit d site.argument) in record { trees = w.trees; is = w.is }
+  abbrev WalksDeeper : Option (Search D) → Type 0
+  WalksDeeper None = Unit {0}
+  WalksDeeper (Some search) = WalksBy search
 
-  walked_unbroken : (d : D) (b : Bool) (deeper : Deeper D) → AreDeeperWalked deeper → (outer : Option Span) (site : CallSite)
-      → AreWalked (unbroken world d b deeper outer site).steps
-  walked_unbroken d true deeper all outer site = walked_trees outer site.whole
-  walked_unbroken d false deeper all outer site = walked_level d deeper all outer site
+  walked_next : (a : Scoped D) (next : Around → Scoped D) (around : Around) → IsWalked a → ((here : Around) → IsWalked (next here)) → IsWalked (and_next a next around)
+  walked_next a next around h more =
+      walked_more a.outcome.steps (next (behind a.defines around)).outcome.steps h (more (behind a.defines around))
 
-  walked_looked_up : (r : Option D) (deeper : Deeper D) → AreDeeperWalked deeper → (outer : Option Span) (site : CallSite) (kept : Outcome D)
-      → AreWalked kept.steps → AreWalked (looked_up world r deeper outer site kept).steps
-  walked_looked_up None deeper all outer site kept w = w
-  walked_looked_up (Some d) deeper all outer site kept w = walked_unbroken d (world.broken d) deeper all outer site
+  -- a definition that is left out puts out the walk of no tree
+  walked_unless : (b : Bool) (outer : Option Span) (f : Forest) → AreWalked (placed outer (if b then [] else walk f))
+  walked_unless true outer f = walked_trees outer empty
+  walked_unless false outer f = walked_trees outer f
 
-  walked_call : (deeper : Deeper D) → AreDeeperWalked deeper → (outer : Option Span) (path : Path) (name : Ident) (site : CallSite) (kept : Outcome D)
-      → AreWalked kept.steps → AreWalked (at_call world scope deeper outer path name site kept).steps
-  walked_call deeper all outer bare name site kept w = walked_looked_up (scope name.sym) deeper all outer site kept w
-  walked_call deeper all outer (from_crate k c e) name site kept w = walked_looked_up (scope (key_of (from_crate k c e) name)) deeper all outer site kept w
-  walked_call deeper all outer (other c e) name site kept w = w
+  walked_defined : (around : Around) (d : Definition) → IsWalked (defined dialect world local scope around d)
+  walked_defined around d = go (world.broken (local d))
+    where
+      shown : Outcome D
+      shown = just around.outer (if is_left_out around.standing then [] else walk d.piece)
 
-  walked_search : (deeper : Deeper D) → AreDeeperWalked deeper → (outer : Option Span) (m : Marked) → AreWalked (search_calls world scope deeper outer m).steps
-  walked_search deeper all outer none = walked_trees outer empty
-  walked_search deeper all outer (token l rest) =
-      walked_more (placed outer (at_leaf l ∷ [])) (search_calls world scope deeper outer rest).steps
-      (walked_trees outer (leaf l empty)) (walked_search deeper all outer rest)
-  walked_search deeper all outer (inside d a rest) =
-      walked_more (grouped outer d (search_calls world scope deeper outer a)).steps (search_calls world scope deeper outer rest).steps
-      (walked_group outer d (search_calls world scope deeper outer a) (walked_search deeper all outer a)) (walked_search deeper all outer rest)
-  walked_search deeper all outer (call path name bang d a rest) =
-      let site : CallSite = record { at = name.span; whole = whole_call path name bang d (unmarked a); argument = unmarked a } in
-      let lead : Outcome D = just outer (walk (before_group path name bang)) in
-      let in_group : Outcome D = grouped outer d (search_calls world scope deeper outer a) in
-      let kept : Outcome D = followed_by lead in_group in
-      walked_more (at_call world scope deeper outer path name site kept).steps (search_calls world scope deeper outer rest).steps
-      (walked_call deeper all outer path name site kept
-      (walked_more lead.steps in_group.steps (walked_trees outer (before_group path name bang))
-      (walked_group outer d (search_calls world scope deeper outer a) (walked_search deeper all outer a))))
-      (walked_search deeper all outer rest)
+      go : (b : Bool) → AreWalked (if b then faulted BrokenDefinition (unwrap_or around.outer d.name.span) shown else shown).steps
+      go true = walked_unless (is_left_out around.standing) around.outer d.piece
+      go false = walked_unless (is_left_out around.standing) around.outer d.piece
 
--- an expansion puts out the walk of trees
-pub walked_expansion : {D : Type 0} → (world : World D) (scope : List ℕ → Option D) (depth : ℕ) (outer : Option Span) (f : Forest)
-    → AreWalked (expansion world scope depth outer f).steps
-walked_expansion world scope zero outer f = walked_search world scope None tt outer (marked f)
-walked_expansion world scope (suc n) outer f =
-    walked_search world scope (Some (expansion world scope n)) (λ o g. walked_expansion world scope n o g) outer (marked f)
+  walked_fitted : (search : Search D) → WalksBy search → (around : Around) (site : CallSite) (r : Option Forest) → IsWalked (fitted dialect world local scope search around site r)
+  walked_fitted search all around site None = walked_trees around.outer site.whole
+  walked_fitted search all around site (Some g) = all (record around { outer = Some (unwrap_or around.outer site.at) }) g
+
+  walked_level : (d : D) (deeper : Option (Search D)) → WalksDeeper deeper → (around : Around) (site : CallSite) → IsWalked (at_level dialect world local scope d deeper around site)
+  walked_level d None all around site = walked_trees around.outer site.whole
+  walked_level d (Some search) all around site =
+      let w = walked_fitted search all around site (world.fit d site.argument) in record { trees = w.trees; is = w.is }
+
+  walked_unbroken : (d : D) (b : Bool) (deeper : Option (Search D)) → WalksDeeper deeper → (around : Around) (site : CallSite)
+      → IsWalked (unbroken dialect world local scope d b deeper around site)
+  walked_unbroken d true deeper all around site = walked_trees around.outer site.whole
+  walked_unbroken d false deeper all around site = walked_level d deeper all around site
+
+  walked_looked_up : (r : Option D) (deeper : Option (Search D)) → WalksDeeper deeper → (around : Around) (site : CallSite) (kept : Scoped D) → IsWalked kept
+      → IsWalked (looked_up dialect world local scope r deeper around site kept)
+  walked_looked_up None deeper all around site kept h = h
+  walked_looked_up (Some d) deeper all around site kept h = walked_unbroken d (world.broken d) deeper all around site
+
+  walked_key : (r : Option Definition) (key : List ℕ) (deeper : Option (Search D)) → WalksDeeper deeper → (around : Around) (site : CallSite) (kept : Scoped D) → IsWalked kept
+      → IsWalked (at_key dialect world local scope r key deeper around site kept)
+  walked_key (Some d) key deeper all around site kept h = walked_looked_up (Some (local d)) deeper all around site kept h
+  walked_key None key deeper all around site kept h =
+      let w = walked_looked_up (scope key) deeper all around site kept h in record { trees = w.trees; is = w.is }
+
+  walked_call : (path : Path) (name : Ident) (deeper : Option (Search D)) → WalksDeeper deeper → (around : Around) (site : CallSite) (kept : Scoped D) → IsWalked kept
+      → IsWalked (at_call dialect world local scope deeper around path name site kept)
+  walked_call bare name deeper all around site kept h = walked_key (nearest around.locals name.sym) name.sym deeper all around site kept h
+  walked_call (from_crate root p q) name deeper all around site kept h = walked_key None (key_of (from_crate root p q) name) deeper all around site kept h
+  walked_call (other p q) name deeper all around site kept h = h
+
+  module _ (search : Search D) (all : WalksBy search) (deeper : Option (Search D)) (below : WalksDeeper deeper) where
+    walked_kept : (around : Around) (path : Path) (name : Ident) (bang : Punct) (d : Delimiter) (inner : Forest)
+        → IsWalked (kept_call dialect world local scope search around path name bang d inner)
+    walked_kept around path name bang d inner =
+        let a : Scoped D = search (record around { standing = Argument }) inner in
+        walked_more (placed around.outer (walk (before_group path name bang))) (grouped around.outer d a.outcome).steps
+        (walked_trees around.outer (before_group path name bang))
+        (walked_group around.outer d a.outcome (all (record around { standing = Argument }) inner))
+
+    walked_leaf : (b : Bool) (outer : Option Span) (l : Leaf) → AreWalked (placed outer (if b then [] else at_leaf l ∷ []))
+    walked_leaf true outer l = walked_trees outer empty
+    walked_leaf false outer l = walked_trees outer (leaf l empty)
+
+    walked_search : (s : Begun) (around : Around) (m : Marked) → IsWalked (search_trees dialect world local scope search deeper s around m)
+    walked_search s around none = walked_trees around.outer empty
+    walked_search s around (token l rest) =
+        walked_next (search_leaf dialect world local scope s around l) (λ here. search_trees dialect world local scope search deeper (after_leaf s l) here rest)
+        around (walked_leaf (is_dropped s l) around.outer l) (λ here. walked_search (after_leaf s l) here rest)
+    walked_search s around (inside d a rest) =
+        let inner : Around = record around { standing = in_group s d.kind around.standing } in
+        walked_next (in_brackets around.outer d (search inner (unmarked a))) (λ here. search_trees dialect world local scope search deeper (after_group s d.kind) here rest)
+        around (walked_group around.outer d (search inner (unmarked a)).outcome (all inner (unmarked a))) (λ here. walked_search (after_group s d.kind) here rest)
+    walked_search s around (call path name bang d a rest) =
+        let behind_it : Begun = after_call (takes_end dialect world local scope deeper s around path name d (unmarked a)) s d.kind in
+        let site : CallSite = record { at = name.span; whole = whole_call path name bang d (unmarked a); argument = unmarked a } in
+        let kept : Scoped D = kept_call dialect world local scope search around path name bang d (unmarked a) in
+        walked_next (at_call dialect world local scope deeper around path name site kept) (λ here. search_trees dialect world local scope search deeper behind_it here rest)
+        around (walked_call path name deeper below around site kept (walked_kept around path name bang d (unmarked a))) (λ here. walked_search behind_it here rest)
+
+    walked_part : (around : Around) (p : Forest) (d : Option Definition) → IsWalked (search_piece dialect world local scope search deeper around p d)
+    walked_part around p (Some d) = walked_defined around d
+    walked_part around p None = walked_search Nothing around (marked p)
+
+    walked_parts : (around : Around) (ps : List Forest) → IsWalked (search_pieces dialect world local scope search deeper around ps)
+    walked_parts around [] = walked_trees around.outer empty
+    walked_parts around (p ∷ ps) =
+        walked_next (search_piece dialect world local scope search deeper around p (definition_in dialect.scope p)) (λ here. search_pieces dialect world local scope search deeper here ps)
+        around (walked_part around p (definition_in dialect.scope p)) (λ here. walked_parts here ps)
+
+  walked_list : (deeper : Option (Search D)) → WalksDeeper deeper → (n : ℕ) → WalksBy (search_list dialect world local scope deeper n)
+  walked_list deeper below zero around f = walked_trees around.outer empty
+  walked_list deeper below (suc n) around f =
+      walked_parts (search_list dialect world local scope deeper n) (walked_list deeper below n) deeper below around (cut f)
+
+  -- an expansion by scope rules puts out the walk of trees
+  walked_scoped : (n : ℕ) → WalksBy (scoped dialect world local scope n)
+  walked_scoped zero around f = walked_list None tt (suc (size f)) around f
+  walked_scoped (suc n) around f = walked_list (Some (scoped dialect world local scope n)) (walked_scoped n) (suc (size f)) around f
 
 -- so do the members of a text, one after another
 module _ (layers : Layers) (depth : ℕ) where
   walked_member : (before : List Definition) (piece : Forest) (d : Option Definition) → AreWalked (output_of (member layers depth before piece d))
-  walked_member before piece None = walked_expansion layers.world (nearest before) depth None piece
+  walked_member before piece None =
+      walked_scoped layers.world.dialect layers.world (λ d. d) (nearest before) depth (without_locals Top None) piece
   walked_member before piece (Some d) = walked_trees None empty
 
   pub walked_members : (before : List Definition) (ps : List Forest) → AreWalked (flat_map output_of (members_after layers depth before ps))

@@ -11,12 +11,14 @@ use Rattle.mbe.specs.Grammar.{Grammar}
 use Rattle.tt_data.specs.Forest.{Forest}
 use Rattle.tt_data.specs.declared.edition.Edition.{Edition}
 use Rattle.expander_session.specs.Agreement.{FoundIn}
+use Rattle.expander_model.specs.declared.dialect.Dialect.{Dialect}
 use Rattle.expander_model.specs.Changes.{find_with, outcome_with}
 use Rattle.expander_session.specs.Count.{Looked, expanded_count, found_piece, is_same, looked_of, same_found}
 use Rattle.expander_model.specs.Definitions.{Definition, definition_of, nearest}
 use Rattle.expander_session.specs.Expanded.{Expanded}
-use Rattle.expander_model.specs.Expansion.{World, Outcome, expansion}
-use Rattle.expander_model.specs.Held.{HasNumber, IsNumbered, Known, Met, Numbered, StandFromFirst, Stands, Tells, first_place, kept_after, kept_of, mets_after, nearest_met, numbered_scope, numbered_world, present_definition, resolve, resolve_definition}
+use Rattle.expander_model.specs.Expansion.{World, Outcome}
+use Rattle.expander_model.specs.Scoping.{expanded}
+use Rattle.expander_model.specs.Held.{HasNumber, IsNumbered, Known, Met, Numbered, StandFromFirst, Stands, Tells, first_place, kept_after, kept_of, mets_after, nearest_met, numbered_scope, numbered_world, present_definition, resolve, resolve_definition, unnumbered}
 use Rattle.expander_model.specs.DefinitionTrees.{definition_trees}
 use Rattle.expander_session.specs.Laws.{FindsAsBefore, IsFoundAgain}
 use Rattle.expander_session.specs.Layered.{layers}
@@ -29,7 +31,7 @@ use Rattle.expander_session.specs.Reuse.{FoundIs, IsHeld, agrees, looked_at, loo
 use Rattle.expander_session.specs.TextTurn.{StandsInText, held_of}
 use Rattle.expander_model.specs.World.{world}
 use Rattle.expander_session.specs.declared.session.Reply.TheVariants.{Read}
-use Rattle.expander_session.proofs.FindsLemmas.{expansion_found}
+use Rattle.expander_session.proofs.ExpandedLemmas.{found_expanded}
 use Rattle.expander_scope.proofs.HeldLemmas.{definition_there, definitions_present, members_present, present_scope, resolved_expansion}
 use Rattle.expander_session.proofs.NumberLemmas.{all_known, tells_apart, with_trees_are}
 use Rattle.expander_model.proofs.PlaceLemmas.{all_stand, own_stands, resolved_piece}
@@ -72,12 +74,12 @@ counts_more earlier one two =
 
 -- ---- the definitions before a piece
 
-module _ (laws : TurnLaws) (grammar : Grammar) (edition : Edition) (depth : ℕ) (number : Forest → ℕ) (table : Forest → ℕ → Type 0) (tell : Tells table) where
+module _ (laws : TurnLaws) (grammar : Grammar) (edition : Edition) (dialect : Dialect) (depth : ℕ) (number : Forest → ℕ) (table : Forest → ℕ → Type 0) (tell : Tells table) where
   abbrev here : Layers
-  here = layers grammar edition
+  here = layers grammar edition dialect
 
   abbrev w : World Definition
-  w = world grammar edition
+  w = world grammar edition dialect
 
   definitions_stand : (ps : List Forest) → All (IsPiece table number) ps → All (StandsInText table) (mets_after w depth number [] ps)
   definitions_stand ps are =
@@ -90,11 +92,11 @@ module _ (laws : TurnLaws) (grammar : Grammar) (edition : Edition) (depth : ℕ)
   -- the count sees of a plain piece what is held of it
   one_looked : (before : List Met) → All (StandsInText table) before → (p : Forest) → IsPiece table number p → definition_of (relative p) ≡ None
       → looked_of (members_after here depth (map present_definition before) (p ∷ []))
-      ≡ looked_at (relative p) (expansion (numbered_world w) (numbered_scope before) depth None (relative p)) ∷ []
+      ≡ looked_at (relative p) (expanded (numbered_world w) unnumbered (numbered_scope before) depth (relative p)) ∷ []
   one_looked before met p is plain =
       let stand : All StandFromFirst (p ∷ []) = All-cons StandFromFirst p [] is.from (All-nil StandFromFirst) in
       let numbered : All (HasNumber table number) (p ∷ []) = All-cons (HasNumber table number) p [] is.numbered (All-nil (HasNumber table number)) in
-      ap looked_of (members_present here (world_at_other_places laws.rules grammar edition) table tell number depth before (mets table before met) (p ∷ []) stand numbered)
+      ap looked_of (members_present here (world_at_other_places laws.rules grammar edition dialect) table tell number depth before (mets table before met) (p ∷ []) stand numbered)
       ∙ looked_are_held laws.equal w depth table tell (kept_after w depth number before (p ∷ []))
       (kept_are laws.equal w depth table number before met (p ∷ []) (are_pieces table number (p ∷ []) stand numbered))
       ∙ ap (λ (o : Option Definition). map looked_held (filter_map held_of (kept_of w depth number before p o ∷ []))) plain
@@ -136,18 +138,18 @@ module _ (laws : TurnLaws) (grammar : Grammar) (edition : Edition) (depth : ℕ)
 
     -- a plain piece with the tree of an earlier one
     same_looked_now : (p q : Forest) → StandFromFirst p → relative p ≡ relative q
-        → FindsAsBefore (nearest (map present_definition now)) (expansion w (nearest (map present_definition before)) depth None p).finds
-        → is_same (looked_at (relative q) (expansion (numbered_world w) (numbered_scope now) depth None (relative q)))
-        (looked_at (relative p) (expansion (numbered_world w) (numbered_scope before) depth None (relative p))) ≡ true
+        → FindsAsBefore (nearest (map present_definition now)) (expanded w (λ d. d) (nearest (map present_definition before)) depth p).finds
+        → is_same (looked_at (relative q) (expanded (numbered_world w) unnumbered (numbered_scope now) depth (relative q)))
+        (looked_at (relative p) (expanded (numbered_world w) unnumbered (numbered_scope before) depth (relative p))) ≡ true
     same_looked_now p q from same finds =
         let start : ℕ = first_start p in
-        let was : Outcome Numbered = expansion (numbered_world w) (numbered_scope before) depth None (relative p) in
+        let was : Outcome Numbered = expanded (numbered_world w) unnumbered (numbered_scope before) depth (relative p) in
         let scope = met_scope laws.equal table before (mets table before met) in
-        let there : expansion w (nearest (map present_definition before)) depth None p ≡ outcome_with (resolve start before) (resolve_definition start before) was =
-        ap (expansion w (nearest (map present_definition before)) depth None) (sym (resolved_piece start before p from))
-        ∙ resolved_expansion w (world_at_other_places laws.rules grammar edition) table tell start before (mets table before met) depth (relative p) in
+        let there : expanded w (λ d. d) (nearest (map present_definition before)) depth p ≡ outcome_with (resolve start before) (resolve_definition start before) was =
+        ap (expanded w (λ d. d) (nearest (map present_definition before)) depth) (sym (resolved_piece start before p from))
+        ∙ resolved_expansion w (world_at_other_places laws.rules grammar edition dialect) table tell start before (mets table before met) depth (relative p) in
         let held : IsHeld w depth table (record { tree = relative p; outcome = was }) = fresh_is_held laws.equal w depth table (numbered_scope before) scope (relative p) in
-        let found : FoundIn (numbered_scope before) was.finds = expansion_found (numbered_world w) (numbered_scope before) depth None (relative p) in
+        let found : FoundIn (numbered_scope before) was.finds = found_expanded (numbered_world w) unnumbered (numbered_scope before) depth (relative p) in
         let agree : agrees (numbered_scope now) was.finds ≡ true =
         agrees_now start was.finds found held.finds (subst (λ (o : Outcome Definition). FindsAsBefore (nearest (map present_definition now)) o.finds) there finds) in
         match_is_same laws.equal w depth table tell (numbered_scope now) (met_scope laws.equal table now (mets table now met_now)) (relative q) (record { tree = relative p; outcome = was }) held
@@ -155,7 +157,7 @@ module _ (laws : TurnLaws) (grammar : Grammar) (edition : Edition) (depth : ℕ)
 
     -- a piece with the tree of an earlier one, plain or a definition
     matched_met : (p q : Forest) → IsPiece table number p → IsPiece table number q → relative p ≡ relative q
-        → FindsAsBefore (nearest (map present_definition now)) (expansion w (nearest (map present_definition before)) depth None p).finds
+        → FindsAsBefore (nearest (map present_definition now)) (expanded w (λ d. d) (nearest (map present_definition before)) depth p).finds
         → AllMatch (looked_of (members_after here depth (map present_definition before) (p ∷ []))) (looked_of (members_after here depth (map present_definition now) (q ∷ [])))
     matched_met p q one two same finds = go (definition_of (relative q)) refl
       where
@@ -165,8 +167,8 @@ module _ (laws : TurnLaws) (grammar : Grammar) (edition : Edition) (depth : ℕ)
             let earlier : List Looked = looked_of (members_after here depth (map present_definition before) (p ∷ [])) in
             subst (AllMatch earlier) (sym (none_looked (map present_definition now) q d two.from e)) (All-nil (λ l. list_any (is_same l) earlier ≡ true))
         go None e =
-            let was : Looked = looked_at (relative p) (expansion (numbered_world w) (numbered_scope before) depth None (relative p)) in
-            let is : Looked = looked_at (relative q) (expansion (numbered_world w) (numbered_scope now) depth None (relative q)) in
+            let was : Looked = looked_at (relative p) (expanded (numbered_world w) unnumbered (numbered_scope before) depth (relative p)) in
+            let is : Looked = looked_at (relative q) (expanded (numbered_world w) unnumbered (numbered_scope now) depth (relative q)) in
             let matches : list_any (is_same is) (was ∷ []) ≡ true = ap (λ (b : Bool). b || false) (same_looked_now p q one.from same finds) in
             subst (λ (ls : List Looked). AllMatch ls (looked_of (members_after here depth (map present_definition now) (q ∷ []))))
             (sym (one_looked before met p one (ap definition_of same ∙ e)))
@@ -175,27 +177,27 @@ module _ (laws : TurnLaws) (grammar : Grammar) (edition : Edition) (depth : ℕ)
 
   matched : (ones twos : List Forest) (p q : Forest) → All StandFromFirst ones → All StandFromFirst twos → All (IsPiece table number) ones → All (IsPiece table number) twos
       → IsPiece table number p → IsPiece table number q → relative p ≡ relative q
-      → FindsAsBefore (nearest (definitions_after [] twos)) (expansion w (nearest (definitions_after [] ones)) depth None p).finds
+      → FindsAsBefore (nearest (definitions_after [] twos)) (expanded w (λ d. d) (nearest (definitions_after [] ones)) depth p).finds
       → AllMatch (looked_of (members_after here depth (definitions_after [] ones) (p ∷ []))) (looked_of (members_after here depth (definitions_after [] twos) (q ∷ [])))
   matched ones twos p q stand stand_too are are_too one two same =
       let before : List Met = mets_after w depth number [] ones in
       let now : List Met = mets_after w depth number [] twos in
-      subst (λ (ds : List Definition). FindsAsBefore (nearest (definitions_after [] twos)) (expansion w (nearest ds) depth None p).finds
+      subst (λ (ds : List Definition). FindsAsBefore (nearest (definitions_after [] twos)) (expanded w (λ d. d) (nearest ds) depth p).finds
       → AllMatch (looked_of (members_after here depth ds (p ∷ []))) (looked_of (members_after here depth (definitions_after [] twos) (q ∷ []))))
       (sym (definitions_present w depth number [] ones (all_stand ones stand)))
-      (subst (λ (ds : List Definition). FindsAsBefore (nearest ds) (expansion w (nearest (map present_definition before)) depth None p).finds
+      (subst (λ (ds : List Definition). FindsAsBefore (nearest ds) (expanded w (λ d. d) (nearest (map present_definition before)) depth p).finds
       → AllMatch (looked_of (members_after here depth (map present_definition before) (p ∷ []))) (looked_of (members_after here depth ds (q ∷ []))))
       (sym (definitions_present w depth number [] twos (all_stand twos stand_too)))
       (matched_met before now (definitions_stand ones are) (definitions_stand twos are_too) p q one two same))
 
 -- ---- a piece of a text
 
-module _ (laws : TurnLaws) (grammar : Grammar) (edition : Edition) (depth : ℕ) (text other : List ℕ) (f g p q : Forest) (ones twos more_ones more_twos : List Forest)
+module _ (laws : TurnLaws) (grammar : Grammar) (edition : Edition) (dialect : Dialect) (depth : ℕ) (text other : List ℕ) (f g p q : Forest) (ones twos more_ones more_twos : List Forest)
     (one : IsUtf8 text) (two : IsUtf8 other) (read : text_reading text ≡ Ok f) (read_too : text_reading other ≡ Ok g)
     (first : pieces f ≡ ones ++ p ∷ more_ones) (second : pieces g ≡ twos ++ q ∷ more_twos) (same : relative p ≡ relative q)
-    (finds : FindsAsBefore (nearest (definitions_after [] twos)) (expansion (world grammar edition) (nearest (definitions_after [] ones)) depth None p).finds) where
+    (finds : FindsAsBefore (nearest (definitions_after [] twos)) (expanded (world grammar edition dialect) (λ d. d) (nearest (definitions_after [] ones)) depth p).finds) where
   abbrev all_here : Layers
-  all_here = layers grammar edition
+  all_here = layers grammar edition dialect
 
   abbrev earlier : List Looked
   earlier = looked_of (members all_here depth f)
@@ -226,7 +228,7 @@ module _ (laws : TurnLaws) (grammar : Grammar) (edition : Edition) (depth : ℕ)
       let have_too : All Numbered (twos ++ q ∷ more_twos) = subst (All Numbered) second (all_back Numbered (pieces f) (pieces g) numbered) in
       let are : All (IsPiece (Known number trees) number) (ones ++ p ∷ more_ones) = are_pieces (Known number trees) number (ones ++ p ∷ more_ones) stand have in
       let are_too : All (IsPiece (Known number trees) number) (twos ++ q ∷ more_twos) = are_pieces (Known number trees) number (twos ++ q ∷ more_twos) stand_too have_too in
-      let match = matched laws grammar edition depth number (Known number trees) tell ones twos p q
+      let match = matched laws grammar edition dialect depth number (Known number trees) tell ones twos p q
       (all_front StandFromFirst ones (p ∷ more_ones) stand) (all_front StandFromFirst twos (q ∷ more_twos) stand_too)
       (all_front (IsPiece (Known number trees) number) ones (p ∷ more_ones) are) (all_front (IsPiece (Known number trees) number) twos (q ∷ more_twos) are_too)
       (All-head (IsPiece (Known number trees) number) p more_ones (all_back (IsPiece (Known number trees) number) ones (p ∷ more_ones) are))

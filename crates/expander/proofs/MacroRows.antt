@@ -14,6 +14,7 @@ use Rattle.small_grammar.specs.Answer.{answer}
 use Rattle.small_grammar.specs.SmallGrammar.{lifetime, arrow, arg, generics, seg, tpath, bound, type_rule, path, post, atom, operand, binop, expr, num, pat_rule, pat_top, meta_item, vis}
 use Rattle.small_grammar.specs.Tokens.{token_at}
 use Rattle.expander_model.specs.declared.fault.FaultKind.TheVariants.{CannotExpand}
+use Rattle.expander_model.specs.Dialects.{top_level}
 use Rattle.expander_session.specs.Layered.{layers}
 use Rattle.expander_model.specs.Meaning.{meaning}
 use Rattle.expander_run.specs.Runs.{run_layers}
@@ -60,7 +61,7 @@ an_expression_of_2024 = refl
 
 -- and in an edition before
 abbrev before : List (List ℕ) → Shown
-before ls = shown (meaning (layers answer Edition2021) 128 (lines ls))
+before ls = shown (meaning (layers answer Edition2021 top_level) 128 (lines ls))
 
 no_expression_before : before (codes "macro_rules! e { ($e:expr) => { $e; } }" ∷ codes "e!{ _ }" ∷ [])
     ≡ gives (lines (codes "e ! { _ }" ∷ [])) (fault CannotExpand 40 41 ∷ [])

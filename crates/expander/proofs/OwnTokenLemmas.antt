@@ -12,6 +12,7 @@ use Rattle.tt_data.specs.Walk.{Step, at_leaf, opens, closes, step_with}
 use Rattle.tt_data.specs.declared.edition.Edition.{Edition}
 use Rattle.tt_data.specs.declared.leaf.Leaf.TheVariants as as_leaf
 use Rattle.tt_data.specs.declared.span.Span.{Span}
+use Rattle.expander_model.specs.declared.dialect.Dialect.{Dialect}
 use Rattle.expander_model.specs.Changes.{placed_with}
 use Rattle.expander_model.specs.DefinitionTrees.{definition_trees}
 use Rattle.expander_model.specs.Definitions.{Definition, definition_of}
@@ -125,12 +126,12 @@ module _ (spelling : Step → List PlacedStep → Option (List ℕ)) where
 
 -- ---- the tokens of a text
 
-module _ (rules : RuleLaws) (order : OrderLaws) (equal : (a b : Forest) → (same_forest a b ≡ true) ↔ (a ≡ b)) (grammar : Grammar) (edition : Edition) (depth : ℕ) where
+module _ (rules : RuleLaws) (order : OrderLaws) (equal : (a b : Forest) → (same_forest a b ≡ true) ↔ (a ≡ b)) (grammar : Grammar) (edition : Edition) (dialect : Dialect) (depth : ℕ) where
   abbrev W : World Definition
-  W = world grammar edition
+  W = world grammar edition dialect
 
   abbrev L : Layers
-  L = layers grammar edition
+  L = layers grammar edition dialect
 
   -- ids for these trees
   abbrev ids : List Forest → Numbering
@@ -145,7 +146,7 @@ module _ (rules : RuleLaws) (order : OrderLaws) (equal : (a b : Forest) → (sam
       let from : All StandFromFirst (pieces f) = pieces_stand order text f is_text read in
       let apart = tells_apart equal n (with_trees_are (record { given = 0; entries = [] }) tt trees) in
       let same =
-      members_present L (world_at_other_places rules grammar edition) (Known number all) (tells number all apart) number depth []
+      members_present L (world_at_other_places rules grammar edition dialect) (Known number all) (tells number all apart) number depth []
       (All-nil (IsMet (Known number all))) (pieces f) from
       (all_numbered number all (pieces f) (all_known equal (record { given = 0; entries = [] }) trees)) in
       subst (λ (ms : List Member). All IsOwnStep (flat_map output_of ms)) (sym same)

@@ -9,12 +9,12 @@ use Rattle.bridge.specs.Printing.{is_visible_step}
 use Rattle.expander_model.specs.Expansion.{PlacedStep, placed}
 use Rattle.expander_model.specs.Faults.{fault_at, place, is_definition_word, nested, unspellable, in_order}
 use Rattle.expander_model.specs.declared.fault.FaultKind.TheVariants.{NestedDefinition}
-use Rattle.expander_session.specs.Laws.{AreAllPlain, HasNoWord}
+use Rattle.expander_session.specs.Laws.{HasNoWord}
 use Rattle.expander_model.specs.Meaning.{Layers, members, output, tokens_of, faults_of}
-use Rattle.expander_model.specs.Pieces.{pieces, separated}
+use Rattle.expander_model.specs.Pieces.{separated}
 use Rattle.expander_model.specs.Printing.{PrintedToken, visible, spelled, printed, left_out}
-use Rattle.expander.proofs.SearchLemmas.{plain_output, plain_faults}
-use Rattle.expander_session.proofs.WordLemmas.{quiet_plain, quiet_separated, is_quiet}
+use Rattle.expander.proofs.SearchLemmas.{wordless_output, wordless_faults}
+use Rattle.expander_session.proofs.WordLemmas.{quiet_separated, is_quiet}
 
 -- ---- what is printed of quiet steps
 
@@ -57,17 +57,16 @@ module _ (spelling : Step → List PlacedStep → Option (List ℕ)) where
       quiet_spelled s (spelling s.step ss) (printed spelling ss) (no_word (is_definition_word s.step) parts.0) (quiet_printed ss parts.1)
 
 module _ (layers : Layers) (depth : ℕ) (f : Forest) where
-  quiet_output : AreAllPlain (pieces f) → HasNoWord f → are_quiet (output (members layers depth f)) ≡ true
-  quiet_output plain h =
-      ap (λ ss. are_quiet (visible ss)) (plain_output layers depth (separated f) plain)
+  quiet_output : HasNoWord f → are_quiet (output (members layers depth f)) ≡ true
+  quiet_output h =
+      ap (λ ss. are_quiet (visible ss)) (wordless_output layers depth (separated f) (quiet_separated f h))
       ∙ quiet_visible (placed None (walk (separated f))) (quiet_placed (walk (separated f)) (quiet_separated f h))
 
   pub quiet_text : HasNoWord f → left_out layers.spelling (output (members layers depth f)) ≡ []
       → faults_of layers (members layers depth f) ≡ []
   quiet_text h none_left =
-      let plain : AreAllPlain (pieces f) = quiet_plain f h in
       ap (λ fs. in_order (fs ++ (nested (tokens_of layers (members layers depth f)) ++ unspellable (left_out layers.spelling (output (members layers depth f))))))
-      (plain_faults layers depth (separated f) plain)
+      (wordless_faults layers depth (separated f) (quiet_separated f h))
       ∙ ap (λ ts. in_order (map (λ (t : PrintedToken). fault_at NestedDefinition (place t.token)) ts ++ unspellable (left_out layers.spelling (output (members layers depth f)))))
-      (quiet_printed layers.spelling (output (members layers depth f)) (quiet_output plain h))
+      (quiet_printed layers.spelling (output (members layers depth f)) (quiet_output h))
       ∙ ap (λ ss. in_order (unspellable ss)) none_left

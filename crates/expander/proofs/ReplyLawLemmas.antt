@@ -10,6 +10,7 @@ use Rattle.tt_data.specs.Forest.{Forest}
 use Rattle.tt_data.specs.declared.edition.Edition.{Edition}
 use Rattle.expander_session.specs.Answers.{ShowTheSame}
 use Rattle.expander_session.specs.Count.{Looked, expanded_count, finds_within, is_same, looked_of}
+use Rattle.expander_model.specs.declared.dialect.Dialect.{Dialect}
 use Rattle.expander_model.specs.EqualTrees.{same_forest}
 use Rattle.expander_session.specs.Expanded.{Expanded}
 use Rattle.expander_session.specs.Laws.{ExpandsNothing, HasNoWord}
@@ -30,13 +31,13 @@ faults_are (Err fault) earlier e none h = absurd h
 
 -- where the text is short enough, by whatever measure
 pub quiet_reply : (short : List ℕ → Type 0)
-    → ((grammar : Grammar) (edition : Edition) (depth : ℕ) (text : List ℕ) (f : Forest) (m : ReadMeaning) →
-    IsUtf8 text → short text → text_reading text ≡ Ok f → HasNoWord f → meaning (layers grammar edition) depth text ≡ Ok m → m.faults ≡ [])
-    → (grammar : Grammar) (edition : Edition) (depth : ℕ) (text : List ℕ) (f : Forest) (earlier : Option (List Looked)) (e : Expanded)
+    → ((grammar : Grammar) (edition : Edition) (dialect : Dialect) (depth : ℕ) (text : List ℕ) (f : Forest) (m : ReadMeaning) →
+    IsUtf8 text → short text → text_reading text ≡ Ok f → HasNoWord f → meaning (layers grammar edition dialect) depth text ≡ Ok m → m.faults ≡ [])
+    → (grammar : Grammar) (edition : Edition) (dialect : Dialect) (depth : ℕ) (text : List ℕ) (f : Forest) (earlier : Option (List Looked)) (e : Expanded)
     → IsUtf8 text → short text → text_reading text ≡ Ok f → HasNoWord f
-    → IsReplyTo (layers grammar edition) depth text earlier (Read e) → e.faults ≡ []
-quiet_reply short law grammar edition depth text f earlier e is_text fits read quiet h =
-    faults_are (meaning (layers grammar edition) depth text) earlier e (λ m is. law grammar edition depth text f m is_text fits read quiet is) h
+    → IsReplyTo (layers grammar edition dialect) depth text earlier (Read e) → e.faults ≡ []
+quiet_reply short law grammar edition dialect depth text f earlier e is_text fits read quiet h =
+    faults_are (meaning (layers grammar edition dialect) depth text) earlier e (λ m is. law grammar edition dialect depth text f m is_text fits read quiet is) h
 
 -- ---- a piece that is among the earlier ones
 
@@ -90,7 +91,7 @@ module _ (equal : (f g : Forest) → (same_forest f g ≡ true) ↔ (f ≡ g)) w
   second_reply answer old new newer e reply h k =
       let meant : Result ReadMeaning ReadFault = meaning_of_state (layers_of answer old) old in
       let same : meaning_of_state (layers_of answer new) new ≡ meant =
-      λ i. meaning_in (layers (answer (h.1.grammar i)) (h.1.edition i)) (h.1.depth i) (definitions_of (h.1.prelude i)) (h.1.text i) in
+      λ i. meaning_in (layers (answer (h.1.grammar i)) (h.1.edition i) (h.1.dialect i)) (h.1.depth i) (definitions_of (h.1.prelude i)) (h.1.text i) in
       again meant old.held e reply h.0
       (subst (λ (o : Option (List Looked)). IsMeant meant o reply) h.1.held
       (subst (λ (r : Result ReadMeaning ReadFault). IsMeant r new.held reply) same k.0))

@@ -1,8 +1,11 @@
 -- What the search for calls leaves unchanged.
 use Rattle.std.proofs.Common.{◌≡◌, ℕ, zero, suc, List, [], ◌∷◌, ◌++◌, refl, sym, ap, ◌∙◌, append_assoc, Bool, true, false, inl, inr}
-use Rattle.std.specs.Prelude.{Option, Some, None, is_none, ◌||◌, flat_map, map}
+use Rattle.std.specs.Prelude.{All, Option, Some, None, is_none, ◌||◌, flat_map, map}
+use Rattle.std.specs.List.{list_all}
 use Rattle.std.proofs.lemmas.List.{map-append}
 use Rattle.std.proofs.lemmas.Bool.{and_parts}
+use Rattle.std.proofs.lemmas.List.Elements.{All-cons, All-head, All-nil, All-tail}
+use Rattle.std.proofs.lemmas.List.Folds.{list_all-append}
 use Rattle.tt_data.specs.Forest.{Forest, leaf, group, joined}
 use Rattle.tt_data.specs.Walk.{Step, at_leaf, opens, closes, walk}
 use Rattle.tt_data.proofs.ForestLemmas.{walk-joined}
@@ -15,15 +18,20 @@ use Rattle.expander_model.specs.declared.call.Call.{Call}
 use Rattle.expander_model.specs.Definitions.{Definition}
 use Rattle.expander_model.specs.CallSteps.{call_at, key_at}
 use Rattle.expander_model.specs.Calls.{Path, bare, from_crate, other, Marked, none, token, inside, call, marked, unmarked, in_front}
-use Rattle.expander_model.specs.Definitions.{definition_of}
+use Rattle.expander_model.specs.Definitions.{definition_of, nearest}
 use Rattle.expander_model.specs.Expansion.{World, Outcome, Deeper, CallSite, placed, just, followed_by, grouped, fitted, unbroken, at_call, before_group, search_calls, expansion}
 use Rattle.expander_model.specs.Faults.{fault_at}
-use Rattle.expander_session.specs.Laws.{Fails, AreAllPlain}
+use Rattle.expander_session.specs.Laws.{Fails, AreAllPlain, HasNoWord}
 use Rattle.expander_model.specs.Meaning.{Layers, members_after, output_of, member_faults}
 use Rattle.expander_model.specs.Pieces.{cut, put_together}
+use Rattle.expander_model.specs.Scoping.{Scoped, expanded}
+use Rattle.expander_model.specs.declared.scope_rules.ScopeRules.TheVariants.{TopLevel, Rust}
+use Rattle.textual_scope.specs.Keywords.{HasNoKeyword}
 use Rattle.expander_model.proofs.SplittingLemmas.{put_together-cut}
 use Rattle.expander_scope.proofs.MarkLemmas.{unmarked-marked}
 use Rattle.expander_scope.proofs.TurnLemmas.{known_search}
+use Rattle.expander_session.proofs.WordLemmas.{is_quiet, quiet_cut}
+use Rattle.textual_scope.proofs.RuleLemmas.{unfound_scoped}
 
 -- ---- a failed call
 
@@ -139,27 +147,66 @@ is_plain : (d : Option Definition) → is_none d ≡ true → d ≡ None
 is_plain None e = refl
 is_plain (Some d) e = cc
 
+-- a piece is expanded as where no name finds a definition, and no list has one
+abbrev IsBare : Layers → ℕ → Forest → Type 0
+IsBare layers depth p =
+    expanded layers.world (λ d. d) (nearest []) depth p ≡ expansion layers.world (λ name. None) depth None p
+
 module _ (layers : Layers) (depth : ℕ) where
-  quiet_steps : (ps : List Forest) → AreAllPlain ps → flat_map output_of (members_after layers depth [] ps) ≡ placed None (walk (put_together ps))
-  quiet_steps [] h = refl
-  quiet_steps (p ∷ ps) h =
+  quiet_steps : (ps : List Forest) → AreAllPlain ps → All (IsBare layers depth) ps
+      → flat_map output_of (members_after layers depth [] ps) ≡ placed None (walk (put_together ps))
+  quiet_steps [] h each = refl
+  quiet_steps (p ∷ ps) h each =
       let plain = and_parts (is_none (definition_of p)) _ h in
       rw (is_plain (definition_of p) plain.0)
-      (ap (λ s. s ++ flat_map output_of (members_after layers depth [] ps)) (quiet_expansion layers.world depth None p).put_out
-      ∙ ap (λ s. placed None (walk p) ++ s) (quiet_steps ps plain.1)
+      (ap (λ (o : Outcome Definition). o.steps ++ flat_map output_of (members_after layers depth [] ps)) (All-head (IsBare layers depth) p ps each)
+      ∙ ap (λ s. s ++ flat_map output_of (members_after layers depth [] ps)) (quiet_expansion layers.world depth None p).put_out
+      ∙ ap (λ s. placed None (walk p) ++ s) (quiet_steps ps plain.1 (All-tail (IsBare layers depth) p ps each))
       ∙ sym (map-append (λ s. record { step = s; outer = None }) (walk p) (walk (put_together ps)))
       ∙ ap (placed None) (sym (walk-joined p (put_together ps))))
 
-  quiet_faults : (ps : List Forest) → AreAllPlain ps → flat_map (member_faults layers) (members_after layers depth [] ps) ≡ []
-  quiet_faults [] h = refl
-  quiet_faults (p ∷ ps) h =
+  quiet_faults : (ps : List Forest) → AreAllPlain ps → All (IsBare layers depth) ps → flat_map (member_faults layers) (members_after layers depth [] ps) ≡ []
+  quiet_faults [] h each = refl
+  quiet_faults (p ∷ ps) h each =
       let plain = and_parts (is_none (definition_of p)) _ h in
       rw (is_plain (definition_of p) plain.0)
-      (ap (λ fs. map (λ f. fault_at f.0 f.1) fs ++ flat_map (member_faults layers) (members_after layers depth [] ps)) (quiet_expansion layers.world depth None p).untold
-      ∙ quiet_faults ps plain.1)
+      (ap (λ (o : Outcome Definition). map (λ f. fault_at f.0 f.1) o.faults ++ flat_map (member_faults layers) (members_after layers depth [] ps))
+      (All-head (IsBare layers depth) p ps each)
+      ∙ ap (λ fs. map (λ f. fault_at f.0 f.1) fs ++ flat_map (member_faults layers) (members_after layers depth [] ps)) (quiet_expansion layers.world depth None p).untold
+      ∙ quiet_faults ps plain.1 (All-tail (IsBare layers depth) p ps each))
 
-  pub plain_output : (f : Forest) → AreAllPlain (cut f) → flat_map output_of (members_after layers depth [] (cut f)) ≡ placed None (walk f)
-  plain_output f h = quiet_steps (cut f) h ∙ ap (λ g. placed None (walk g)) (put_together-cut f)
+  -- a piece that by the scope rules has no definition inside
+  bare_by : (p : Forest) → (layers.world.dialect.scope ≡ Rust → HasNoKeyword p) → IsBare layers depth p
+  bare_by p h = ap (λ (a : Scoped Definition). a.outcome) (unfound_scoped layers.world (λ d. d) depth p layers.world.dialect h)
 
-  pub plain_faults : (f : Forest) → AreAllPlain (cut f) → flat_map (member_faults layers) (members_after layers depth [] (cut f)) ≡ []
-  plain_faults f h = quiet_faults (cut f) h
+  -- where a name finds pieces of texts alone
+  plainly_bare : layers.world.dialect.scope ≡ TopLevel → (ps : List Forest) → All (IsBare layers depth) ps
+  plainly_bare is [] = All-nil (IsBare layers depth)
+  plainly_bare is (p ∷ ps) =
+      All-cons (IsBare layers depth) p ps (bare_by p (λ rust. absurd (let both : TopLevel ≡ Rust = sym is ∙ rust in cc both))) (plainly_bare is ps)
+
+  pub plain_output : (f : Forest) → layers.world.dialect.scope ≡ TopLevel → AreAllPlain (cut f)
+      → flat_map output_of (members_after layers depth [] (cut f)) ≡ placed None (walk f)
+  plain_output f is h = quiet_steps (cut f) h (plainly_bare is (cut f)) ∙ ap (λ g. placed None (walk g)) (put_together-cut f)
+
+  pub plain_faults : (f : Forest) → layers.world.dialect.scope ≡ TopLevel → AreAllPlain (cut f)
+      → flat_map (member_faults layers) (members_after layers depth [] (cut f)) ≡ []
+  plain_faults f is h = quiet_faults (cut f) h (plainly_bare is (cut f))
+
+  -- without a definition keyword, by whatever dialect
+  wordless_bare : (ps : List Forest) → HasNoWord (put_together ps) → All (IsBare layers depth) ps
+  wordless_bare [] h = All-nil (IsBare layers depth)
+  wordless_bare (p ∷ ps) h =
+      let parts = and_parts (list_all is_quiet (walk p)) (list_all is_quiet (walk (put_together ps)))
+      (sym (list_all-append is_quiet (walk p) (walk (put_together ps))) ∙ ap (list_all is_quiet) (sym (walk-joined p (put_together ps))) ∙ h) in
+      All-cons (IsBare layers depth) p ps
+      (bare_by p (λ rust. parts.0)) (wordless_bare ps parts.1)
+
+  wordless_pieces : (f : Forest) → HasNoWord f → All (IsBare layers depth) (cut f)
+  wordless_pieces f h = wordless_bare (cut f) (ap (λ (g : Forest). list_all is_quiet (walk g)) (put_together-cut f) ∙ h)
+
+  pub wordless_output : (f : Forest) → HasNoWord f → flat_map output_of (members_after layers depth [] (cut f)) ≡ placed None (walk f)
+  wordless_output f h = quiet_steps (cut f) (quiet_cut f h) (wordless_pieces f h) ∙ ap (λ g. placed None (walk g)) (put_together-cut f)
+
+  pub wordless_faults : (f : Forest) → HasNoWord f → flat_map (member_faults layers) (members_after layers depth [] (cut f)) ≡ []
+  wordless_faults f h = quiet_faults (cut f) (quiet_cut f h) (wordless_pieces f h)

@@ -17,7 +17,7 @@ module _ {G : Type 0} (answer : G → Grammar) where
   Stays old new = (layers_of answer new ≡ layers_of answer old) × (new.depth ≡ old.depth) × (new.prelude ≡ old.prelude)
 
   reply_stays : (L : Layers) (old new : State G) (reply : Reply) → StateAfter L old new reply → Stays old new
-  reply_stays L old new (Read e) h = ((λ i. layers (answer (h.grammar i)) (h.edition i)), h.depth, h.prelude)
+  reply_stays L old new (Read e) h = ((λ i. layers (answer (h.grammar i)) (h.edition i) (h.dialect i)), h.depth, h.prelude)
   reply_stays L old new (Unread fault) h = (ap (layers_of answer) h, ap (λ (s : State G). s.depth) h, ap (λ (s : State G). s.prelude) h)
 
   calls_stay : (old new : State G) (calls : List SessionCall) → IsAfter answer old calls new → Stays old new

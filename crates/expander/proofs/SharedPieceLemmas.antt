@@ -9,9 +9,11 @@ use Rattle.mbe.specs.Grammar.{Grammar}
 use Rattle.tt_data.specs.Forest.{Forest}
 use Rattle.tt_data.specs.declared.edition.Edition.{Edition}
 use Rattle.expander_session.specs.Count.{Looked, expanded_count, is_same, looked_of}
+use Rattle.expander_model.specs.declared.dialect.Dialect.{Dialect}
 use Rattle.expander_model.specs.Definitions.{Definition, definition_of}
-use Rattle.expander_model.specs.Expansion.{World, expansion}
-use Rattle.expander_model.specs.Held.{HasNumber, IsMet, Known, Met, Numbered, StandFromFirst, Tells, kept_after, kept_of, met_of, nearest_met, numbered_of, numbered_scope, numbered_world, with_met}
+use Rattle.expander_model.specs.Expansion.{World}
+use Rattle.expander_model.specs.Scoping.{expanded}
+use Rattle.expander_model.specs.Held.{HasNumber, IsMet, Known, Met, Numbered, StandFromFirst, Tells, kept_after, kept_of, met_of, nearest_met, numbered_of, numbered_scope, numbered_world, with_met, unnumbered}
 use Rattle.expander_model.specs.DefinitionTrees.{definition_trees}
 use Rattle.expander_session.specs.Laws.{ExpandsNothing}
 use Rattle.expander_session.specs.Layered.{layers}
@@ -61,7 +63,7 @@ module _ (w : World Definition) (depth : ℕ) (number : Forest → ℕ) where
 
   -- what is held of a tree
   abbrev tree_held : List Numbered → Forest → Option Definition → Option HeldPiece
-  tree_held before t None = Some (record { tree = t; outcome = expansion (numbered_world w) (nearest_of before) depth None t })
+  tree_held before t None = Some (record { tree = t; outcome = expanded (numbered_world w) unnumbered (nearest_of before) depth t })
   tree_held before t (Some d) = None
 
   -- what is held of trees in order
@@ -80,9 +82,9 @@ module _ (w : World Definition) (depth : ℕ) (number : Forest → ℕ) where
           ≡ cons_option (tree_held (map numbered_of before) (relative p) o) (trees_held (with_tree (relative p) o (map numbered_of before)) (map relative ps))
       go (Some d) later = later (met_of w depth number p d ∷ before)
       go None later =
-          ap (λ (scope : List ℕ → Option Numbered). record { tree = relative p; outcome = expansion (numbered_world w) scope depth None (relative p) } ∷ filter_map held_of (kept_after w depth number before ps))
+          ap (λ (scope : List ℕ → Option Numbered). record { tree = relative p; outcome = expanded (numbered_world w) unnumbered scope depth (relative p) } ∷ filter_map held_of (kept_after w depth number before ps))
           (scope_is before)
-          ∙ ap (λ (hs : List HeldPiece). record { tree = relative p; outcome = expansion (numbered_world w) (nearest_of (map numbered_of before)) depth None (relative p) } ∷ hs)
+          ∙ ap (λ (hs : List HeldPiece). record { tree = relative p; outcome = expanded (numbered_world w) unnumbered (nearest_of (map numbered_of before)) depth (relative p) } ∷ hs)
           (later before)
 
 -- ---- pieces one after another
@@ -124,18 +126,18 @@ trees_by_trees (p ∷ ps) = go (definition_of (relative p)) (trees_by_trees ps)
     go None later = later
     go (Some d) later = ap (λ (ts : List Forest). relative p ∷ ts) later
 
-module _ (laws : TurnLaws) (grammar : Grammar) (edition : Edition) (depth : ℕ) where
+module _ (laws : TurnLaws) (grammar : Grammar) (edition : Edition) (dialect : Dialect) (depth : ℕ) where
   abbrev here : Layers
-  here = layers grammar edition
+  here = layers grammar edition dialect
 
   -- what the count sees of pieces whose definitions have numbers
   looked_by_trees : (number : Forest → ℕ) (table : Forest → ℕ → Type 0) → Tells table → (ps : List Forest) → All StandFromFirst ps → All (HasNumber table number) ps
-      → looked_of (members_after here depth [] ps) ≡ map looked_held (trees_held (world grammar edition) depth number [] (map relative ps))
+      → looked_of (members_after here depth [] ps) ≡ map looked_held (trees_held (world grammar edition dialect) depth number [] (map relative ps))
   looked_by_trees number table tell ps stand numbered =
-      ap looked_of (members_present here (world_at_other_places laws.rules grammar edition) table tell number depth [] (All-nil (IsMet table)) ps stand numbered)
-      ∙ looked_are_held laws.equal (world grammar edition) depth table tell (kept_after (world grammar edition) depth number [] ps)
-      (kept_are laws.equal (world grammar edition) depth table number [] (All-nil (StandsInText table)) ps (are_pieces table number ps stand numbered))
-      ∙ ap (map looked_held) (held_by_trees (world grammar edition) depth number [] ps)
+      ap looked_of (members_present here (world_at_other_places laws.rules grammar edition dialect) table tell number depth [] (All-nil (IsMet table)) ps stand numbered)
+      ∙ looked_are_held laws.equal (world grammar edition dialect) depth table tell (kept_after (world grammar edition dialect) depth number [] ps)
+      (kept_are laws.equal (world grammar edition dialect) depth table number [] (All-nil (StandsInText table)) ps (are_pieces table number ps stand numbered))
+      ∙ ap (map looked_held) (held_by_trees (world grammar edition dialect) depth number [] ps)
 
   -- it is the same for the same trees
   same_looked : (ps qs : List Forest) → All StandFromFirst ps → All StandFromFirst qs → map relative ps ≡ map relative qs
@@ -150,7 +152,7 @@ module _ (laws : TurnLaws) (grammar : Grammar) (edition : Edition) (depth : ℕ)
       let known_too : All (Contains trees) (definition_trees qs) =
       subst (All (Contains trees)) (trees_by_trees ps ∙ ap defining_trees same ∙ sym (trees_by_trees qs)) known in
       looked_by_trees number (Known number trees) tell ps one (all_numbered number trees ps known)
-      ∙ ap (λ (ts : List Forest). map looked_held (trees_held (world grammar edition) depth number [] ts)) same
+      ∙ ap (λ (ts : List Forest). map looked_held (trees_held (world grammar edition dialect) depth number [] ts)) same
       ∙ sym (looked_by_trees number (Known number trees) tell qs two (all_numbered number trees qs known_too))
 
   module _ (text other : List ℕ) (f g : Forest) where

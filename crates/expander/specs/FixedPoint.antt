@@ -6,6 +6,7 @@ use Rattle.expander_session.specs.declared.session.Reply.{Reply}
 use Rattle.expander_session.specs.declared.session.Reply.TheVariants.{Read, Unread}
 use Rattle.expander_session.specs.Laws.{AreAllPlain}
 use Rattle.expander_session.specs.Layered.{layers}
+use Rattle.expander_model.specs.declared.dialect.Dialect.{Dialect}
 use Rattle.expander_model.specs.Meaning.{ReadMeaning, meaning}
 use Rattle.expander_model.specs.Pieces.{pieces}
 use Rattle.mbe.specs.Grammar.{Grammar}
@@ -18,12 +19,13 @@ PrintsItself text (Ok m) = (m.text ≡ text) × (m.faults ≡ [])
 PrintsItself text (Err fault) = ⊥
 
 -- a text that can be read, has no definition, and prints itself without a fault, whatever the
--- grammar, the edition and the number of levels
+-- grammar, the edition, the dialect and the number of levels
 pub record IsFixedPoint (text : List ℕ) : Type 0 where
   pub trees : Forest
   pub read : text_reading text ≡ Ok trees
   pub plain : AreAllPlain (pieces trees)
-  pub again : (grammar : Grammar) (edition : Edition) (depth : ℕ) → PrintsItself text (meaning (layers grammar edition) depth text)
+  pub again : (grammar : Grammar) (edition : Edition) (dialect : Dialect) (depth : ℕ)
+      → PrintsItself text (meaning (layers grammar edition dialect) depth text)
 
 -- a reply prints this text, without a fault
 abbrev pub RepliesWith : List ℕ → Reply → Type 0

@@ -3,6 +3,8 @@ pub use Rattle.expander_model.specs.Pieces
 pub use Rattle.expander_model.specs.Definitions
 pub use Rattle.expander_model.specs.Calls
 pub use Rattle.expander_model.specs.Expansion
+pub use Rattle.expander_model.specs.Scoping
+pub use Rattle.expander_model.specs.Dialects
 pub use Rattle.expander_model.specs.Printing
 pub use Rattle.expander_model.specs.Faults
 pub use Rattle.expander_model.specs.Meaning
@@ -26,6 +28,8 @@ pub use Rattle.expander_model.specs.Changes
 pub use Rattle.expander_model.specs.OtherPlaces
 pub use Rattle.expander_model.specs.DefinitionTrees
 pub use Rattle.expander_scope.specs.NewNumbers
+pub use Rattle.textual_scope.specs.TopLevelMeaning
+pub use Rattle.textual_scope.specs.Keywords
 -- what laws alone rest on
 pub mod PieceTokens
 pub mod FixedPoint

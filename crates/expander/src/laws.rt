@@ -12,7 +12,7 @@ ghost use Rattle.expander_model.specs.Expansion.{World, expansion, followed_by, 
 ghost use Rattle.expander_session.specs.Expanded.{Expanded, origin_text};
 ghost use Rattle.expander_model.specs.Faults.{comes_before, in_order};
 ghost use Rattle.expander.specs.FixedPoint.{IsFixedPoint, RepliesWith};
-ghost use Rattle.expander_model.specs.Held.{IsMet, Known, Met, TellsApart, kept_after, numbered_scope, numbered_world, present};
+ghost use Rattle.expander_model.specs.Held.{IsMet, Known, Met, TellsApart, kept_after, numbered_scope, numbered_world, present, unnumbered};
 ghost use Rattle.expander_model.specs.DefinitionTrees.{definition_trees, trees_in};
 ghost use Rattle.expander_session.specs.Laws.{AreAllPlain, ExpandsNothing, Fails, FindsAsBefore, HasNoWord, IsEnded, IsParted, why_failed};
 ghost use Rattle.expander_session.specs.Layered.{layers};
@@ -31,6 +31,9 @@ ghost use Rattle.expander_session.specs.State.{State, layers_of};
 ghost use Rattle.expander_session.specs.TextTurn.{InEntries, IsNext, IsTurn, held_of, is_unmatched, kept_entries, numbering_of, taken_after};
 ghost use Rattle.expander_model.specs.declared.call.Call.{Call};
 ghost use Rattle.expander_model.specs.Definitions.{Definition, definition_of, nearest};
+ghost use Rattle.expander_model.specs.Scoping.{expanded};
+ghost use Rattle.expander_model.specs.declared.dialect.Dialect.{Dialect};
+ghost use Rattle.expander_model.specs.declared.scope_rules.ScopeRules.TheVariants.{TopLevel};
 ghost use Rattle.expander_model.specs.World.{world};
 ghost use Rattle.expander_model.specs.declared.fault.Fault.{Fault};
 ghost use Rattle.expander_model.specs.declared.fault.FaultKind.{FaultKind};
@@ -63,6 +66,10 @@ use expander_run::program::Status;
 use expander_scope::refusal::Refusal;
 pub use expander_session::laws::definitions_are_no_more_than_bytes;
 use fragment_grammar::FragmentGrammar;
+pub use textual_scope::laws::{
+    expansions_depend_on_outer_lookups_alone, top_level_scope_is_as_before,
+    without_keywords_both_rules_agree,
+};
 
 /// Marking the calls of a forest changes nothing else: the marks taken off give the forest back.
 pub fn marks_taken_off()
@@ -187,12 +194,20 @@ pub fn a_failed_call_stays_anywhere()
         ∷ (expansion world scope depth outer c.rest).finds }
 {}
 
-/// If no piece is a definition, the output is the walk of the pieces, and no fault comes of
-/// expansion, whatever the layers below answer.
+/// If no piece is a definition, and names find pieces of texts alone, the output is the walk of
+/// the pieces, and no fault comes of expansion, whatever the layers below answer: `output`,
+/// `faults`. By whatever dialect that is so if no definition keyword is anywhere:
+/// `wordless_output`, `wordless_faults`.
 pub fn without_definitions_nothing_changes()
-    ensures output { (layers : Layers) (depth : ℕ) (f : Forest) → AreAllPlain (cut f) →
+    ensures output { (layers : Layers) (depth : ℕ) (f : Forest) →
+        layers.world.dialect.scope ≡ TopLevel → AreAllPlain (cut f) →
         flat_map output_of (members_after layers depth [] (cut f)) ≡ placed None (walk f) }
-    ensures faults { (layers : Layers) (depth : ℕ) (f : Forest) → AreAllPlain (cut f) →
+    ensures faults { (layers : Layers) (depth : ℕ) (f : Forest) →
+        layers.world.dialect.scope ≡ TopLevel → AreAllPlain (cut f) →
+        flat_map (member_faults layers) (members_after layers depth [] (cut f)) ≡ [] }
+    ensures wordless_output { (layers : Layers) (depth : ℕ) (f : Forest) → HasNoWord f →
+        flat_map output_of (members_after layers depth [] (cut f)) ≡ placed None (walk f) }
+    ensures wordless_faults { (layers : Layers) (depth : ℕ) (f : Forest) → HasNoWord f →
         flat_map (member_faults layers) (members_after layers depth [] (cut f)) ≡ [] }
 {}
 
@@ -215,18 +230,19 @@ pub fn quiet_texts_have_no_fault()
 /// name and literal is displayed in fewer than 2^32 bytes: `exact`. (A longer one is in no text, so
 /// it cannot be printed. The escapes of a doc comment could make one of a shorter text.)
 pub fn no_fault_without_definition_keywords()
-    ensures short { (grammar : Grammar) (edition : Edition) (depth : ℕ) (text : List ℕ)
-        (f : Forest) (m : ReadMeaning) →
+    ensures short { (grammar : Grammar) (edition : Edition) (dialect : Dialect) (depth : ℕ)
+        (text : List ℕ) (f : Forest) (m : ReadMeaning) →
         IsUtf8 text → length text < 2 ^ 31 → text_reading text ≡ Ok f → HasNoWord f →
-        meaning (layers grammar edition) depth text ≡ Ok m → m.faults ≡ [] }
-    ensures escaped_text { (grammar : Grammar) (edition : Edition) (depth : ℕ) (text : List ℕ)
-        (f : Forest) (m : ReadMeaning) →
+        meaning (layers grammar edition dialect) depth text ≡ Ok m → m.faults ≡ [] }
+    ensures escaped_text { (grammar : Grammar) (edition : Edition) (dialect : Dialect) (depth : ℕ)
+        (text : List ℕ) (f : Forest) (m : ReadMeaning) →
         IsUtf8 text → length (escaped text) < 2 ^ 32 → text_reading text ≡ Ok f → HasNoWord f →
-        meaning (layers grammar edition) depth text ≡ Ok m → m.faults ≡ [] }
-    ensures exact { (grammar : Grammar) (edition : Edition) (depth : ℕ) (text : List ℕ)
-        (f : Forest) (m : ReadMeaning) →
+        meaning (layers grammar edition dialect) depth text ≡ Ok m → m.faults ≡ [] }
+    ensures exact { (grammar : Grammar) (edition : Edition) (dialect : Dialect) (depth : ℕ)
+        (text : List ℕ) (f : Forest) (m : ReadMeaning) →
         IsUtf8 text → text_reading text ≡ Ok f → HasNoWord f →
-        meaning (layers grammar edition) depth text ≡ Ok m → (m.faults ≡ []) ↔ AreShort (walk f) }
+        meaning (layers grammar edition dialect) depth text ≡ Ok m →
+        (m.faults ≡ []) ↔ AreShort (walk f) }
 {
     bridge::laws::reading_is_a_relation();
     bridge::laws::read_texts_are_printed_whole();
@@ -236,9 +252,9 @@ pub fn no_fault_without_definition_keywords()
 /// Without definitions of other texts each printed token comes from the text itself, so the
 /// origin of each is in it.
 pub fn printed_tokens_are_the_texts_own()
-    ensures { (grammar : Grammar) (edition : Edition) (depth : ℕ) (text : List ℕ)
-        (m : ReadMeaning) →
-        IsUtf8 text → meaning (layers grammar edition) depth text ≡ Ok m →
+    ensures { (grammar : Grammar) (edition : Edition) (dialect : Dialect) (depth : ℕ)
+        (text : List ℕ) (m : ReadMeaning) →
+        IsUtf8 text → meaning (layers grammar edition dialect) depth text ≡ Ok m →
         All (λ n. n ≡ 0) (map origin_text m.tokens) }
 {
     equal_pieces();
@@ -252,28 +268,32 @@ pub fn printed_tokens_are_the_texts_own()
 
 /// Faultless output is a fixed point. If a text means an expansion without a fault, after whatever
 /// definitions of other texts, the printed text is read, has no definition, and by itself means
-/// just the same bytes, without a fault, under every grammar, edition and number of levels.
+/// just the same bytes, without a fault, under every grammar, edition, dialect and number of
+/// levels.
 pub fn faultless_output_is_a_fixed_point()
-    ensures { (grammar : Grammar) (edition : Edition) (depth : ℕ) (initial : List Definition)
-        (text : List ℕ) (m : ReadMeaning) →
-        meaning_in (layers grammar edition) depth initial text ≡ Ok m → m.faults ≡ [] →
-        IsFixedPoint m.text }
+    ensures { (grammar : Grammar) (edition : Edition) (dialect : Dialect) (depth : ℕ)
+        (initial : List Definition) (text : List ℕ) (m : ReadMeaning) →
+        meaning_in (layers grammar edition dialect) depth initial text ≡ Ok m →
+        m.faults ≡ [] → IsFixedPoint m.text }
 {
     bridge::laws::reading_is_a_relation();
     bridge::laws::printed_text_reads_back();
 }
 
 /// So it is for replies. Any reply to what a reply without faults printed, of a session without a
-/// prelude, with any grammar, edition, number of levels and cache, prints the same bytes without a
-/// fault. (With a prelude it need not: what a call printed may be a call together with what follows
-/// it, once both are read again.)
+/// prelude, with any grammar, edition, dialect, number of levels and cache, prints the same bytes
+/// without a fault. (With a prelude it need not: what a call printed may be a call together with
+/// what follows it, once both are read again.)
 pub fn faultless_replies_are_fixed_points()
-    ensures { (grammar : Grammar) (edition : Edition) (depth : ℕ) (initial : List Definition)
-        (text : List ℕ) (earlier : Option (List Looked)) (e : Expanded) →
-        IsReplyIn (layers grammar edition) depth initial text earlier (Read e) → e.faults ≡ [] →
-        (others : Grammar) (later : Edition) (levels : ℕ) (held : Option (List Looked))
-        (reply : Reply) →
-        IsReplyTo (layers others later) levels e.printed held reply → RepliesWith e.printed reply }
+    ensures { (grammar : Grammar) (edition : Edition) (dialect : Dialect) (depth : ℕ)
+        (initial : List Definition) (text : List ℕ) (earlier : Option (List Looked))
+        (e : Expanded) →
+        IsReplyIn (layers grammar edition dialect) depth initial text earlier (Read e) →
+        e.faults ≡ [] →
+        (others : Grammar) (later : Edition) (rules : Dialect) (levels : ℕ)
+        (held : Option (List Looked)) (reply : Reply) →
+        IsReplyTo (layers others later rules) levels e.printed held reply →
+        RepliesWith e.printed reply }
 {
     faultless_output_is_a_fixed_point();
 }
@@ -301,13 +321,15 @@ pub fn expansions_depend_on_lookups_alone()
 pub fn expansions_at_other_spans()
     ensures definitions { (f : Span → Span) (piece : Forest) → definition_of (map_spans f piece)
         ≡ option_map (definition_with f) (definition_of piece) }
-    ensures expansions { (grammar : Grammar) (edition : Edition) (f : Span → Span) →
+    ensures expansions { (grammar : Grammar) (edition : Edition) (dialect : Dialect)
+        (f : Span → Span) →
         CommutesWithMarker f →
         (scope : List ℕ → Option Definition) (depth : ℕ) (outer : Option Span) (g : Forest) →
-        expansion (world grammar edition) (λ name. option_map (definition_with f) (scope name))
+        expansion (world grammar edition dialect)
+        (λ name. option_map (definition_with f) (scope name))
         depth (option_map f outer) (map_spans f g)
         ≡ outcome_with f (definition_with f)
-        (expansion (world grammar edition) scope depth outer g) }
+        (expansion (world grammar edition dialect) scope depth outer g) }
 {
     mbe_rules::laws::rules_at_other_places();
     mbe::laws::fit_at_other_places();
@@ -318,12 +340,12 @@ pub fn expansions_at_other_spans()
 /// definitions with ids, and then shifted to the text. Equal definitions have one id, and
 /// different ones different ids.
 fn pieces_at_relative_spans()
-    ensures { (grammar : Grammar) (edition : Edition) (depth : ℕ) (text : List ℕ) (f : Forest)
-        (number_of : Forest → ℕ) →
+    ensures { (grammar : Grammar) (edition : Edition) (dialect : Dialect) (depth : ℕ)
+        (text : List ℕ) (f : Forest) (number_of : Forest → ℕ) →
         IsUtf8 text → text_reading text ≡ Ok f →
         TellsApart number_of (definition_trees (pieces f)) →
-        members (layers grammar edition) depth f
-        ≡ map present (kept_after (world grammar edition) depth number_of [] (pieces f)) }
+        members (layers grammar edition dialect) depth f
+        ≡ map present (kept_after (world grammar edition dialect) depth number_of [] (pieces f)) }
 {
     mbe_rules::laws::rules_at_other_places();
     mbe::laws::fit_at_other_places();
@@ -341,17 +363,20 @@ fn valid_memos_are_new_expansions()
         TellsApart number_of trees → All (IsMet (Known number_of trees)) before →
         IsHeld world depth (Known number_of trees) q →
         matches (numbered_scope before) tree q ≡ true → q.outcome
-        ≡ expansion (numbered_world world) (numbered_scope before) depth None tree }
+        ≡ expanded (numbered_world world) unnumbered (numbered_scope before) depth tree }
     ensures counted { (world : World Definition) (depth : ℕ) (number_of : Forest →
         ℕ) (trees : List Forest) (before : List Met) (tree : Forest) (q : HeldPiece) →
         TellsApart number_of trees → All (IsMet (Known number_of trees)) before →
         IsHeld world depth (Known number_of trees) q →
-        is_same (looked_at tree (expansion (numbered_world world) (numbered_scope before) depth
-        None tree)) (looked_held q) ≡ matches (numbered_scope before) tree q }
+        is_same (looked_at tree (expanded (numbered_world world) unnumbered (numbered_scope before)
+        depth tree)) (looked_held q) ≡ matches (numbered_scope before) tree q }
     ensures fresh { (world : World Definition) (depth : ℕ) (number_of : Forest →
         ℕ) (trees : List Forest) (before : List Met) (tree : Forest) →
         All (IsMet (Known number_of trees)) before →
-        IsHeld world depth (Known number_of trees) (record { tree = tree; outcome = expansion (numbered_world world) (numbered_scope before) depth None tree }) }
+        IsHeld world depth (Known number_of trees) (record {
+          tree = tree;
+          outcome = expanded (numbered_world world) unnumbered (numbered_scope before) depth tree;
+        }) }
 {
     equal_pieces();
 }
@@ -360,27 +385,35 @@ fn valid_memos_are_new_expansions()
 /// `taken`. The count is that of plain pieces without a valid memo: `counted`. The cache after it
 /// is right, and is what the next count sees: `held`, `looked`.
 fn a_text_over_its_cache()
-    ensures taken { (grammar : Grammar) (edition : Edition) (depth : ℕ) (text : List ℕ)
-        (f : Forest) (number_of : Forest → ℕ) (trees : List Forest) (held : List HeldPiece) →
-        IsTurn (world grammar edition) depth text f number_of trees held →
-        members (layers grammar edition) depth f
-        ≡ map present (taken_after (world grammar edition) depth number_of held [] (pieces f)) }
-    ensures counted { (grammar : Grammar) (edition : Edition) (depth : ℕ) (text : List ℕ)
-        (f : Forest) (number_of : Forest → ℕ) (trees : List Forest) (held : List HeldPiece) →
-        IsTurn (world grammar edition) depth text f number_of trees held →
-        expanded_count (Some (map looked_held held)) (looked_of (members (layers grammar edition) depth f))
+    ensures taken { (grammar : Grammar) (edition : Edition) (dialect : Dialect) (depth : ℕ)
+        (text : List ℕ) (f : Forest) (number_of : Forest → ℕ) (trees : List Forest)
+        (held : List HeldPiece) →
+        IsTurn (world grammar edition dialect) depth text f number_of trees held →
+        members (layers grammar edition dialect) depth f
+        ≡ map present (taken_after (world grammar edition dialect) depth number_of held []
+        (pieces f)) }
+    ensures counted { (grammar : Grammar) (edition : Edition) (dialect : Dialect) (depth : ℕ)
+        (text : List ℕ) (f : Forest) (number_of : Forest → ℕ) (trees : List Forest)
+        (held : List HeldPiece) →
+        IsTurn (world grammar edition dialect) depth text f number_of trees held →
+        expanded_count (Some (map looked_held held))
+        (looked_of (members (layers grammar edition dialect) depth f))
         ≡ length (filter (is_unmatched held)
-        (taken_after (world grammar edition) depth number_of held [] (pieces f))) }
-    ensures held { (grammar : Grammar) (edition : Edition) (depth : ℕ) (text : List ℕ) (f : Forest)
-        (number_of : Forest → ℕ) (trees : List Forest) (held : List HeldPiece) →
-        IsTurn (world grammar edition) depth text f number_of trees held →
-        All (IsHeld (world grammar edition) depth (Known number_of trees)) (filter_map held_of (taken_after (world grammar edition) depth number_of held [] (pieces f))) }
-    ensures looked { (grammar : Grammar) (edition : Edition) (depth : ℕ) (text : List ℕ)
-        (f : Forest) (number_of : Forest → ℕ) (trees : List Forest) (held : List HeldPiece) →
-        IsTurn (world grammar edition) depth text f number_of trees held →
-        looked_of (members (layers grammar edition) depth f)
+        (taken_after (world grammar edition dialect) depth number_of held [] (pieces f))) }
+    ensures held { (grammar : Grammar) (edition : Edition) (dialect : Dialect) (depth : ℕ)
+        (text : List ℕ) (f : Forest) (number_of : Forest → ℕ) (trees : List Forest)
+        (held : List HeldPiece) →
+        IsTurn (world grammar edition dialect) depth text f number_of trees held →
+        All (IsHeld (world grammar edition dialect) depth (Known number_of trees))
+        (filter_map held_of (taken_after (world grammar edition dialect) depth number_of held []
+        (pieces f))) }
+    ensures looked { (grammar : Grammar) (edition : Edition) (dialect : Dialect) (depth : ℕ)
+        (text : List ℕ) (f : Forest) (number_of : Forest → ℕ) (trees : List Forest)
+        (held : List HeldPiece) →
+        IsTurn (world grammar edition dialect) depth text f number_of trees held →
+        looked_of (members (layers grammar edition dialect) depth f)
         ≡ map looked_held (filter_map held_of
-        (taken_after (world grammar edition) depth number_of held [] (pieces f))) }
+        (taken_after (world grammar edition dialect) depth number_of held [] (pieces f))) }
 {
     mbe_rules::laws::rules_at_other_places();
     mbe::laws::fit_at_other_places();
@@ -424,45 +457,48 @@ pub fn equal_lookups_are_cache_hits()
 /// precede the piece: `piece`. So the cache misses are those before it and after it: `others`, and
 /// `replied` for a session that last read the earlier text.
 pub fn unchanged_lookups_are_cache_hits()
-    ensures piece { (grammar : Grammar) (edition : Edition) (depth : ℕ) (text other : List ℕ)
-        (f g p q : Forest) (ones twos more_ones more_twos : List Forest) →
+    ensures piece { (grammar : Grammar) (edition : Edition) (dialect : Dialect) (depth : ℕ)
+        (text other : List ℕ) (f g p q : Forest) (ones twos more_ones more_twos : List Forest) →
         IsUtf8 text → IsUtf8 other → text_reading text ≡ Ok f → text_reading other ≡ Ok g →
         pieces f ≡ ones ++ p ∷ more_ones → pieces g ≡ twos ++ q ∷ more_twos → relative p
         ≡ relative q →
         FindsAsBefore (nearest (definitions_after [] twos))
-        (expansion (world grammar edition) (nearest (definitions_after [] ones)) depth
-        None p).finds →
-        expanded_count (Some (looked_of (members (layers grammar edition) depth f)))
-        (looked_of (members_after (layers grammar edition) depth (definitions_after [] twos) (q
-        ∷ []))) ≡ 0 }
-    ensures others { (grammar : Grammar) (edition : Edition) (depth : ℕ) (text other : List ℕ)
-        (f g p q : Forest) (ones twos more_ones more_twos : List Forest) →
+        (expanded (world grammar edition dialect) (λ d. d) (nearest (definitions_after [] ones))
+        depth p).finds →
+        expanded_count (Some (looked_of (members (layers grammar edition dialect) depth f)))
+        (looked_of (members_after (layers grammar edition dialect) depth
+        (definitions_after [] twos) (q ∷ []))) ≡ 0 }
+    ensures others { (grammar : Grammar) (edition : Edition) (dialect : Dialect) (depth : ℕ)
+        (text other : List ℕ) (f g p q : Forest) (ones twos more_ones more_twos : List Forest) →
         IsUtf8 text → IsUtf8 other → text_reading text ≡ Ok f → text_reading other ≡ Ok g →
         pieces f ≡ ones ++ p ∷ more_ones → pieces g ≡ twos ++ q ∷ more_twos → relative p
         ≡ relative q →
         FindsAsBefore (nearest (definitions_after [] twos))
-        (expansion (world grammar edition) (nearest (definitions_after [] ones)) depth
-        None p).finds →
-        expanded_count (Some (looked_of (members (layers grammar edition) depth f))) (looked_of (members (layers grammar edition) depth g))
-        ≡ expanded_count (Some (looked_of (members (layers grammar edition) depth f)))
-        (looked_of (members_after (layers grammar edition) depth [] twos))
-        + expanded_count (Some (looked_of (members (layers grammar edition) depth f)))
-        (looked_of (members_after (layers grammar edition) depth
+        (expanded (world grammar edition dialect) (λ d. d) (nearest (definitions_after [] ones))
+        depth p).finds →
+        expanded_count (Some (looked_of (members (layers grammar edition dialect) depth f)))
+        (looked_of (members (layers grammar edition dialect) depth g))
+        ≡ expanded_count (Some (looked_of (members (layers grammar edition dialect) depth f)))
+        (looked_of (members_after (layers grammar edition dialect) depth [] twos))
+        + expanded_count (Some (looked_of (members (layers grammar edition dialect) depth f)))
+        (looked_of (members_after (layers grammar edition dialect) depth
         (definitions_after [] (twos ++ q ∷ [])) more_twos)) }
-    ensures replied { (grammar : Grammar) (edition : Edition) (depth : ℕ) (text other : List ℕ)
-        (f g p q : Forest) (ones twos more_ones more_twos : List Forest) (e : Expanded) →
+    ensures replied { (grammar : Grammar) (edition : Edition) (dialect : Dialect) (depth : ℕ)
+        (text other : List ℕ) (f g p q : Forest) (ones twos more_ones more_twos : List Forest)
+        (e : Expanded) →
         IsUtf8 text → IsUtf8 other → text_reading text ≡ Ok f → text_reading other ≡ Ok g →
         pieces f ≡ ones ++ p ∷ more_ones → pieces g ≡ twos ++ q ∷ more_twos → relative p
         ≡ relative q →
         FindsAsBefore (nearest (definitions_after [] twos))
-        (expansion (world grammar edition) (nearest (definitions_after [] ones)) depth
-        None p).finds →
-        IsReplyTo (layers grammar edition) depth other
-        (Some (looked_of (members (layers grammar edition) depth f))) (Read e) →
-        e.expanded ≡ expanded_count (Some (looked_of (members (layers grammar edition) depth f)))
-        (looked_of (members_after (layers grammar edition) depth [] twos))
-        + expanded_count (Some (looked_of (members (layers grammar edition) depth f)))
-        (looked_of (members_after (layers grammar edition) depth
+        (expanded (world grammar edition dialect) (λ d. d) (nearest (definitions_after [] ones))
+        depth p).finds →
+        IsReplyTo (layers grammar edition dialect) depth other
+        (Some (looked_of (members (layers grammar edition dialect) depth f))) (Read e) →
+        e.expanded
+        ≡ expanded_count (Some (looked_of (members (layers grammar edition dialect) depth f)))
+        (looked_of (members_after (layers grammar edition dialect) depth [] twos))
+        + expanded_count (Some (looked_of (members (layers grammar edition dialect) depth f)))
+        (looked_of (members_after (layers grammar edition dialect) depth
         (definitions_after [] (twos ++ q ∷ [])) more_twos)) }
 {
     mbe_rules::laws::rules_at_other_places();
@@ -478,21 +514,23 @@ pub fn unchanged_lookups_are_cache_hits()
 /// added, changed or removed, these are no cache misses: `front`. All cache misses are after them:
 /// `behind`.
 pub fn pieces_before_a_change_are_cache_hits()
-    ensures front { (grammar : Grammar) (edition : Edition) (depth : ℕ) (text other : List ℕ)
-        (f g : Forest) (ones twos more_ones more_twos : List Forest) →
+    ensures front { (grammar : Grammar) (edition : Edition) (dialect : Dialect) (depth : ℕ)
+        (text other : List ℕ) (f g : Forest) (ones twos more_ones more_twos : List Forest) →
         IsUtf8 text → IsUtf8 other → text_reading text ≡ Ok f → text_reading other ≡ Ok g →
         pieces f ≡ ones ++ more_ones → pieces g ≡ twos ++ more_twos → map relative ones
         ≡ map relative twos →
-        expanded_count (Some (looked_of (members (layers grammar edition) depth f)))
-        (looked_of (members_after (layers grammar edition) depth [] twos)) ≡ 0 }
-    ensures behind { (grammar : Grammar) (edition : Edition) (depth : ℕ) (text other : List ℕ)
-        (f g : Forest) (ones twos more_ones more_twos : List Forest) →
+        expanded_count (Some (looked_of (members (layers grammar edition dialect) depth f)))
+        (looked_of (members_after (layers grammar edition dialect) depth [] twos)) ≡ 0 }
+    ensures behind { (grammar : Grammar) (edition : Edition) (dialect : Dialect) (depth : ℕ)
+        (text other : List ℕ) (f g : Forest) (ones twos more_ones more_twos : List Forest) →
         IsUtf8 text → IsUtf8 other → text_reading text ≡ Ok f → text_reading other ≡ Ok g →
         pieces f ≡ ones ++ more_ones → pieces g ≡ twos ++ more_twos → map relative ones
         ≡ map relative twos →
-        expanded_count (Some (looked_of (members (layers grammar edition) depth f))) (looked_of (members (layers grammar edition) depth g))
-        ≡ expanded_count (Some (looked_of (members (layers grammar edition) depth f)))
-        (looked_of (members_after (layers grammar edition) depth (definitions_after [] twos) more_twos)) }
+        expanded_count (Some (looked_of (members (layers grammar edition dialect) depth f)))
+        (looked_of (members (layers grammar edition dialect) depth g))
+        ≡ expanded_count (Some (looked_of (members (layers grammar edition dialect) depth f)))
+        (looked_of (members_after (layers grammar edition dialect) depth
+        (definitions_after [] twos) more_twos)) }
 {
     mbe_rules::laws::rules_at_other_places();
     mbe::laws::fit_at_other_places();
@@ -507,18 +545,18 @@ pub fn pieces_before_a_change_are_cache_hits()
 /// comments between them, none is a cache miss: `counted`. A session that last read the one
 /// expands nothing for the other: `replied`.
 pub fn equal_pieces_are_cache_hits()
-    ensures counted { (grammar : Grammar) (edition : Edition) (depth : ℕ) (text other : List ℕ)
-        (f g : Forest) →
+    ensures counted { (grammar : Grammar) (edition : Edition) (dialect : Dialect) (depth : ℕ)
+        (text other : List ℕ) (f g : Forest) →
         IsUtf8 text → IsUtf8 other → text_reading text ≡ Ok f → text_reading other ≡ Ok g →
         map relative (pieces f) ≡ map relative (pieces g) →
-        expanded_count (Some (looked_of (members (layers grammar edition) depth f)))
-        (looked_of (members (layers grammar edition) depth g)) ≡ 0 }
-    ensures replied { (grammar : Grammar) (edition : Edition) (depth : ℕ) (text other : List ℕ)
-        (f g : Forest) (reply : Reply) →
+        expanded_count (Some (looked_of (members (layers grammar edition dialect) depth f)))
+        (looked_of (members (layers grammar edition dialect) depth g)) ≡ 0 }
+    ensures replied { (grammar : Grammar) (edition : Edition) (dialect : Dialect) (depth : ℕ)
+        (text other : List ℕ) (f g : Forest) (reply : Reply) →
         IsUtf8 text → IsUtf8 other → text_reading text ≡ Ok f → text_reading other ≡ Ok g →
         map relative (pieces f) ≡ map relative (pieces g) →
-        IsReplyTo (layers grammar edition) depth other
-        (Some (looked_of (members (layers grammar edition) depth f))) reply →
+        IsReplyTo (layers grammar edition dialect) depth other
+        (Some (looked_of (members (layers grammar edition dialect) depth f))) reply →
         ExpandsNothing reply }
 {
     mbe_rules::laws::rules_at_other_places();
@@ -541,18 +579,18 @@ pub fn pieces_depend_on_tokens_alone()
         IsUtf8 text → IsUtf8 other → text_reading text ≡ Ok f → text_reading other ≡ Ok g →
         map (written_in text) (pieces f) ≡ map (written_in other) (pieces g) →
         map relative (pieces f) ≡ map relative (pieces g) }
-    ensures counted { (grammar : Grammar) (edition : Edition) (depth : ℕ) (text other : List ℕ)
-        (f g : Forest) →
+    ensures counted { (grammar : Grammar) (edition : Edition) (dialect : Dialect) (depth : ℕ)
+        (text other : List ℕ) (f g : Forest) →
         IsUtf8 text → IsUtf8 other → text_reading text ≡ Ok f → text_reading other ≡ Ok g →
         map (written_in text) (pieces f) ≡ map (written_in other) (pieces g) →
-        expanded_count (Some (looked_of (members (layers grammar edition) depth f)))
-        (looked_of (members (layers grammar edition) depth g)) ≡ 0 }
-    ensures replied { (grammar : Grammar) (edition : Edition) (depth : ℕ) (text other : List ℕ)
-        (f g : Forest) (reply : Reply) →
+        expanded_count (Some (looked_of (members (layers grammar edition dialect) depth f)))
+        (looked_of (members (layers grammar edition dialect) depth g)) ≡ 0 }
+    ensures replied { (grammar : Grammar) (edition : Edition) (dialect : Dialect) (depth : ℕ)
+        (text other : List ℕ) (f g : Forest) (reply : Reply) →
         IsUtf8 text → IsUtf8 other → text_reading text ≡ Ok f → text_reading other ≡ Ok g →
         map (written_in text) (pieces f) ≡ map (written_in other) (pieces g) →
-        IsReplyTo (layers grammar edition) depth other
-        (Some (looked_of (members (layers grammar edition) depth f))) reply →
+        IsReplyTo (layers grammar edition dialect) depth other
+        (Some (looked_of (members (layers grammar edition dialect) depth f))) reply →
         ExpandsNothing reply }
 {
     bridge::laws::reading_is_a_relation();
@@ -571,18 +609,18 @@ pub fn trivia_between_pieces_is_free()
         AreWords (map (written_in text) (pieces f)) (placed_tokens other) →
         (g : Forest) × (text_reading other ≡ Ok g)
         × (map relative (pieces f) ≡ map relative (pieces g)) }
-    ensures counted { (grammar : Grammar) (edition : Edition) (depth : ℕ) (text other : List ℕ)
-        (f g : Forest) →
+    ensures counted { (grammar : Grammar) (edition : Edition) (dialect : Dialect) (depth : ℕ)
+        (text other : List ℕ) (f g : Forest) →
         IsUtf8 text → IsUtf8 other → text_reading text ≡ Ok f → text_reading other ≡ Ok g →
         AreWords (map (written_in text) (pieces f)) (placed_tokens other) →
-        expanded_count (Some (looked_of (members (layers grammar edition) depth f)))
-        (looked_of (members (layers grammar edition) depth g)) ≡ 0 }
-    ensures replied { (grammar : Grammar) (edition : Edition) (depth : ℕ) (text other : List ℕ)
-        (f : Forest) (reply : Reply) →
+        expanded_count (Some (looked_of (members (layers grammar edition dialect) depth f)))
+        (looked_of (members (layers grammar edition dialect) depth g)) ≡ 0 }
+    ensures replied { (grammar : Grammar) (edition : Edition) (dialect : Dialect) (depth : ℕ)
+        (text other : List ℕ) (f : Forest) (reply : Reply) →
         IsUtf8 text → IsUtf8 other → text_reading text ≡ Ok f →
         AreWords (map (written_in text) (pieces f)) (placed_tokens other) →
-        IsReplyTo (layers grammar edition) depth other
-        (Some (looked_of (members (layers grammar edition) depth f))) reply →
+        IsReplyTo (layers grammar edition dialect) depth other
+        (Some (looked_of (members (layers grammar edition dialect) depth f))) reply →
         ExpandsNothing reply }
 {
     bridge::laws::reading_is_a_relation();
@@ -596,14 +634,14 @@ pub fn trivia_between_pieces_is_free()
 /// `short`. So it is for a text of fewer than 2^32 bytes once each `"` and `\` of it is escaped:
 /// `escaped_text`.
 pub fn replies_without_definition_keywords_have_no_fault()
-    ensures short { (grammar : Grammar) (edition : Edition) (depth : ℕ) (text : List ℕ)
-        (f : Forest) (earlier : Option (List Looked)) (e : Expanded) →
+    ensures short { (grammar : Grammar) (edition : Edition) (dialect : Dialect) (depth : ℕ)
+        (text : List ℕ) (f : Forest) (earlier : Option (List Looked)) (e : Expanded) →
         IsUtf8 text → length text < 2 ^ 31 → text_reading text ≡ Ok f → HasNoWord f →
-        IsReplyTo (layers grammar edition) depth text earlier (Read e) → e.faults ≡ [] }
-    ensures escaped_text { (grammar : Grammar) (edition : Edition) (depth : ℕ) (text : List ℕ)
-        (f : Forest) (earlier : Option (List Looked)) (e : Expanded) →
+        IsReplyTo (layers grammar edition dialect) depth text earlier (Read e) → e.faults ≡ [] }
+    ensures escaped_text { (grammar : Grammar) (edition : Edition) (dialect : Dialect) (depth : ℕ)
+        (text : List ℕ) (f : Forest) (earlier : Option (List Looked)) (e : Expanded) →
         IsUtf8 text → length (escaped text) < 2 ^ 32 → text_reading text ≡ Ok f → HasNoWord f →
-        IsReplyTo (layers grammar edition) depth text earlier (Read e) → e.faults ≡ [] }
+        IsReplyTo (layers grammar edition dialect) depth text earlier (Read e) → e.faults ≡ [] }
 {
     no_fault_without_definition_keywords();
 }
@@ -645,18 +683,20 @@ pub fn a_first_reply_lacks_no_ids<G: FragmentGrammar>()
 /// The cache stays right from one text that was read to the next, with the ids of the present
 /// text's definitions: `turn`, `held`, `entries`.
 fn caches_stay_valid()
-    ensures turn { (grammar : Grammar) (edition : Edition) (depth : ℕ) (n : Numbering)
-        (held : List HeldPiece) (text : List ℕ) (f : Forest) →
-        IsNext (world grammar edition) depth n held text f →
-        IsTurn (world grammar edition) depth text f (number_of (numbering_of n f).entries) (map tree_of (numbering_of n f).entries) held }
-    ensures held { (grammar : Grammar) (edition : Edition) (depth : ℕ) (n : Numbering)
-        (held : List HeldPiece) (text : List ℕ) (f : Forest) →
-        IsNext (world grammar edition) depth n held text f →
-        All (IsHeld (world grammar edition) depth (InEntries (kept_entries n f)))
-        (filter_map held_of (taken_after (world grammar edition) depth (number_of (numbering_of n f).entries) held [] (pieces f))) }
-    ensures entries { (grammar : Grammar) (edition : Edition) (depth : ℕ) (n : Numbering)
-        (held : List HeldPiece) (text : List ℕ) (f : Forest) →
-        IsNext (world grammar edition) depth n held text f →
+    ensures turn { (grammar : Grammar) (edition : Edition) (dialect : Dialect) (depth : ℕ)
+        (n : Numbering) (held : List HeldPiece) (text : List ℕ) (f : Forest) →
+        IsNext (world grammar edition dialect) depth n held text f →
+        IsTurn (world grammar edition dialect) depth text f (number_of (numbering_of n f).entries)
+        (map tree_of (numbering_of n f).entries) held }
+    ensures held { (grammar : Grammar) (edition : Edition) (dialect : Dialect) (depth : ℕ)
+        (n : Numbering) (held : List HeldPiece) (text : List ℕ) (f : Forest) →
+        IsNext (world grammar edition dialect) depth n held text f →
+        All (IsHeld (world grammar edition dialect) depth (InEntries (kept_entries n f)))
+        (filter_map held_of (taken_after (world grammar edition dialect) depth
+        (number_of (numbering_of n f).entries) held [] (pieces f))) }
+    ensures entries { (grammar : Grammar) (edition : Edition) (dialect : Dialect) (depth : ℕ)
+        (n : Numbering) (held : List HeldPiece) (text : List ℕ) (f : Forest) →
+        IsNext (world grammar edition dialect) depth n held text f →
         AreEntries (numbering_of n f).given (kept_entries n f) }
 {
     mbe_rules::laws::rules_at_other_places();

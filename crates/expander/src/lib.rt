@@ -4,7 +4,9 @@
 pub mod laws;
 
 pub use bridge::{ReadFault, ReadFaultKind, TokenRanges};
+pub use expander_model::dialect::Dialect;
 pub use expander_model::fault::{Fault, FaultKind};
+pub use expander_model::scope_rules::ScopeRules;
 pub use expander_run::options::Options;
 pub use expander_run::program::{Status, run, run_after, run_with};
 pub use expander_run::watched::Watched;

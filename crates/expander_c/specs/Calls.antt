@@ -10,6 +10,8 @@ use Rattle.bridge.specs.ReadText.{HasTooMany}
 use Rattle.bridge.specs.TokenSteps.{text_steps}
 use Rattle.bridge.specs.declared.reading.outcome.ReadFault.{ReadFault}
 use Rattle.expander_model.specs.Meaning.{Layers}
+use Rattle.expander_model.specs.declared.dialect.Dialect.{Dialect}
+use Rattle.expander_model.specs.Dialects.{rust, top_level}
 use Rattle.expander_sources.specs.Homes.{Home, home_named}
 use Rattle.expander_sources.specs.SourceReads.{IsSourceOf}
 use Rattle.expander_sources.specs.Sources.{Source}
@@ -27,6 +29,7 @@ use Rattle.expander_c.specs.declared.code.Code.TheVariants as code
 use Rattle.expander_c.specs.declared.live.Answer.{Answer}
 use Rattle.expander_c.specs.declared.live.Answer.TheVariants as last
 use Rattle.expander_c.specs.declared.live.Live.{Live}
+use Rattle.expander_c.specs.declared.options.SessionOptions.{SessionOptions}
 use Rattle.expander_c.specs.declared.sources.Pick.{Pick}
 
 -- ---- opening
@@ -47,12 +50,25 @@ grammar_of number edition =
     else if nat_eq number 1 then Some (Rust edition)
     else None
 
--- a new session over this text, before any answer
-pub record IsNew (bytes : List ℕ) (year levels number : ℕ) (live : Live) : Type 0 where
-  pub edition : edition_of year ≡ Some live.session.edition
-  pub grammar : grammar_of number live.session.edition ≡ Some live.session.grammar
+-- the dialect of a number of rules of scopes
+abbrev pub dialect_of : ℕ → Option Dialect
+dialect_of number =
+    if nat_eq number 0 then Some top_level
+    else if nat_eq number 1 then Some rust
+    else None
+
+-- by this edition, levels and grammar, where names find pieces of texts alone
+abbrev pub top_options : ℕ → ℕ → ℕ → SessionOptions
+top_options year levels number =
+    record { edition = year; grammar = number; scope = 0; depth = levels }
+
+-- a new session over this text, by these options, before any answer
+pub record IsNew (bytes : List ℕ) (options : SessionOptions) (live : Live) : Type 0 where
+  pub edition : edition_of options.edition ≡ Some live.session.edition
+  pub grammar : grammar_of options.grammar live.session.edition ≡ Some live.session.grammar
+  pub dialect : dialect_of options.scope ≡ Some live.session.dialect
   pub text : live.session.text ≡ bytes
-  pub depth : live.session.depth ≡ levels
+  pub depth : live.session.depth ≡ options.depth
   pub prelude : live.session.prelude ≡ []
   pub held : live.session.held ≡ None
   pub trees : live.session.trees ≡ []
@@ -67,11 +83,13 @@ NoText bytes code.Utf8 = IsUtf8 bytes → ⊥
 NoText bytes _ = ⊥
 
 -- why there is no session
-abbrev pub CannotOpen : List ℕ → ℕ → ℕ → Code → Type 0
-CannotOpen text year grammar code.Edition = edition_of year ≡ None
-CannotOpen text year grammar code.Grammar = (edition : Edition) → grammar_of grammar edition ≡ None
-CannotOpen text year grammar code.Memory = ⊤
-CannotOpen text year grammar c = NoText text c
+abbrev pub CannotOpen : List ℕ → SessionOptions → Code → Type 0
+CannotOpen text options code.Edition = edition_of options.edition ≡ None
+CannotOpen text options code.Grammar =
+    (edition : Edition) → grammar_of options.grammar edition ≡ None
+CannotOpen text options code.Scope = dialect_of options.scope ≡ None
+CannotOpen text options code.Memory = ⊤
+CannotOpen text options c = NoText text c
 
 -- ---- edits
 
@@ -120,9 +138,10 @@ EditTold start stop bytes old new _ = ⊥
 
 -- ---- expansions
 
--- what a text means depends on the grammar of the session and on its edition
+-- what a text means depends on the grammar of the session, on its edition and on its dialect
 abbrev pub layers_of : Live → Layers
-layers_of live = layers (answer live.session.grammar) live.session.edition
+layers_of live =
+    layers (answer live.session.grammar) live.session.edition live.session.dialect
 
 -- a session's reply is its last answer
 abbrev pub Answers : Live → Live → Answer → Type 0

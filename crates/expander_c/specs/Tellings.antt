@@ -6,6 +6,7 @@ use Rattle.expander_c.specs.Codes.{number}
 use Rattle.expander_c.specs.declared.code.Code.{Code}
 use Rattle.expander_c.specs.declared.code.Code.TheVariants.{Closed, Done}
 use Rattle.expander_c.specs.declared.live.Live.{Live}
+use Rattle.expander_c.specs.declared.options.SessionOptions.{SessionOptions}
 
 -- a number is that of a code which means this
 pub record Tells (meaning : Code → Type 0) (n : ℕ) : Type 0 where
@@ -25,10 +26,10 @@ abbrev pub Looks : Type 0 → (Live → Code → Type 0) → Option Live → Opt
 Looks kept told = Told kept (λ old new c. (new ≡ old) × told old c)
 
 -- a session was opened in place of what the handle held, or why not, and then nothing changed
-abbrev pub Opened : List ℕ → ℕ → ℕ → ℕ → Option Live → Option Live → Code → Type 0
-Opened text year depth grammar old (Some live) Done = IsNew text year depth grammar live
-Opened text year depth grammar old None Done = ⊥
-Opened text year depth grammar old new c = CannotOpen text year grammar c × (new ≡ old)
+abbrev pub Opened : List ℕ → SessionOptions → Option Live → Option Live → Code → Type 0
+Opened text options old (Some live) Done = IsNew text options live
+Opened text options old None Done = ⊥
+Opened text options old new c = CannotOpen text options c × (new ≡ old)
 
 -- the text is copied, and its length told
 abbrev pub TextTold : List ℕ → List ℕ → ℕ → Live → Code → Type 0

@@ -9,6 +9,7 @@ use crate::code::Code;
 use crate::handle::Handle;
 use crate::last;
 use crate::live::{Given, Live};
+use crate::options::SessionOptions;
 use crate::room::copy_text;
 use crate::sources::Pick;
 use std::alloc::Global;
@@ -18,13 +19,11 @@ pub(crate) fn open(
     alloc: Global,
     handle: &mut Handle,
     text: &[u8],
-    edition: u32,
-    depth: u8,
-    grammar: u32,
+    options: &SessionOptions,
 ) -> Code
-    ensures { Opened text.now edition depth grammar handle.old.held handle.new.held result }
+    ensures { Opened text.now options.now handle.old.held handle.new.held result }
 {
-    let live = match Live::new(alloc, text, edition, depth, grammar) {
+    let live = match Live::new(alloc, text, options) {
         Ok(live) => live,
         Err(code) => return code,
     };

@@ -41,6 +41,8 @@ pub enum Code {
     Root,
     /// There is no source of this number, or there can be none.
     Source,
+    /// There are no such rules of scopes.
+    Scope,
 }
 
 impl Code {
@@ -67,6 +69,7 @@ impl Code {
             // 15 is that of a null pointer, which the header alone answers.
             Code::Root => 16,
             Code::Source => 17,
+            Code::Scope => 18,
         }
     }
 }

@@ -1,17 +1,19 @@
 //! What C calls. Each answers a code by its number.
 ghost use Rattle.std.specs.Prelude.{◌≡◌, None, ⊤};
 ghost use Rattle.expander_c.specs.Answered.{CountsTold, FaultTold, OfExpansion, OriginsTold, PrintedTold, ReadingFaultTold, SourcesTold, TokenRangesTold};
-ghost use Rattle.expander_c.specs.Calls.{BoundaryTold, EditTold, ExpandTold, FitTold, PreludeTold, SourceAdded};
+ghost use Rattle.expander_c.specs.Calls.{BoundaryTold, EditTold, ExpandTold, FitTold, PreludeTold, SourceAdded, top_options};
 ghost use Rattle.expander_c.specs.Tellings.{Looks, Opened, Tells, TextTold, Told};
 
 use crate::answers::{ByteRange, Counts, SourceTold, ToldFault};
 use crate::calls;
 use crate::handle::Handle;
 use crate::live::Given;
+use crate::options::SessionOptions;
 use crate::sources::Pick;
 use std::alloc::Global;
 
 /// Opens a session over a copy of the text, in place of what the handle holds, which is freed.
+/// Names find pieces of texts alone.
 #[unsafe(no_mangle)]
 pub extern "C" fn expander_raw_open(
     alloc: Global,
@@ -21,9 +23,29 @@ pub extern "C" fn expander_raw_open(
     depth: u8,
     grammar: u32,
 ) -> u32
-    ensures { Tells (Opened text.now edition depth grammar handle.old.held handle.new.held) result }
+    ensures { Tells (Opened text.now (top_options edition depth grammar) handle.old.held
+        handle.new.held) result }
 {
-    calls::open(alloc, handle, text, edition, depth, grammar).number()
+    let options = SessionOptions {
+        edition,
+        grammar,
+        scope: 0,
+        depth,
+    };
+    calls::open(alloc, handle, text, &options).number()
+}
+
+/// Opens a session as `expander_raw_open` does, by all of its options.
+#[unsafe(no_mangle)]
+pub extern "C" fn expander_raw_open_with(
+    alloc: Global,
+    handle: &mut Handle,
+    text: &[u8],
+    options: &SessionOptions,
+) -> u32
+    ensures { Tells (Opened text.now options.now handle.old.held handle.new.held) result }
+{
+    calls::open(alloc, handle, text, options).number()
 }
 
 /// Closes the session and frees it. Nothing happens if the handle holds none.

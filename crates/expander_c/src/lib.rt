@@ -11,5 +11,6 @@ mod exports;
 mod handle;
 mod last;
 mod live;
+mod options;
 mod room;
 mod sources;

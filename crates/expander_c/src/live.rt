@@ -1,12 +1,13 @@
 //! A session with its last answer: what a handle of C's holds.
 ghost use Rattle.std.specs.Prelude.{◌≡◌, ◌<◌, ◌^◌, length, IfOk, IfErr, IsUtf8, MatchResult};
-ghost use Rattle.expander_c.specs.Calls.{BoundaryTold, CannotOpen, EditTold, ExpandTold, FitTold, IsHome, IsNew, IsSource, NoHome, NoSource, NoText, PreludeTold, SourceAdded, edition_of, grammar_of};
+ghost use Rattle.expander_c.specs.Calls.{BoundaryTold, CannotOpen, EditTold, ExpandTold, FitTold, IsHome, IsNew, IsSource, NoHome, NoSource, NoText, PreludeTold, SourceAdded, dialect_of, edition_of, grammar_of};
 
 use crate::answers::{SourceTold, told_unread};
 use crate::code::{Code, refused};
+use crate::options::SessionOptions;
 use crate::sources::{Pick, Sources};
 use any_grammar::AnyGrammar;
-use expander::{Edition, Expansion, Home, ReadFault, Reply, Session, Source, SourceRead};
+use expander::{Dialect, Edition, Expansion, Home, ReadFault, Reply, Session, Source, SourceRead};
 use std::alloc::{AllocError, Global};
 use tt_data::TtFault;
 
@@ -60,6 +61,17 @@ fn grammar_of(number: u32, edition: Edition) -> Option<AnyGrammar>
     match number {
         0 => Some(AnyGrammar::Small),
         1 => Some(AnyGrammar::Rust(edition)),
+        _ => None,
+    }
+}
+
+// The dialect of a number of rules of scopes.
+fn dialect_of(number: u32) -> Option<Dialect>
+    ensures { result ≡ dialect_of number }
+{
+    match number {
+        0 => Some(Dialect::top_level()),
+        1 => Some(Dialect::rust()),
         _ => None,
     }
 }
@@ -118,24 +130,21 @@ fn read_source(alloc: Global, given: &Given<'_>) -> Result<SourceRead, Code>
 
 impl Live {
     /// A session over a copy of the text. Nothing is expanded yet.
-    pub(crate) fn new(
-        alloc: Global,
-        text: &[u8],
-        edition: u32,
-        depth: u8,
-        grammar: u32,
-    ) -> Result<Live, Code>
-        ensures new { IfOk result (λ live. IsNew text.now edition depth grammar live) }
-        ensures why { IfErr result (CannotOpen text.now edition grammar) }
+    pub(crate) fn new(alloc: Global, text: &[u8], options: &SessionOptions) -> Result<Live, Code>
+        ensures new { IfOk result (IsNew text.now options.now) }
+        ensures why { IfErr result (CannotOpen text.now options.now) }
     {
-        let Some(edition) = edition_of(edition) else {
+        let Some(edition) = edition_of(options.edition) else {
             return Err(Code::Edition);
         };
-        let Some(grammar) = grammar_of(grammar, edition) else {
+        let Some(grammar) = grammar_of(options.grammar, edition) else {
             return Err(Code::Grammar);
         };
+        let Some(dialect) = dialect_of(options.scope) else {
+            return Err(Code::Scope);
+        };
         let text = text_in(text)?;
-        match Session::new(alloc, text, grammar, edition, depth) {
+        match Session::with_dialect(alloc, text, grammar, edition, dialect, options.depth) {
             Ok(session) => Ok(Live {
                 session,
                 answer: Answer::Nothing,

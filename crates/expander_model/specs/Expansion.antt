@@ -7,6 +7,7 @@ use Rattle.tt_data.specs.declared.leaf.Ident.{Ident}
 use Rattle.tt_data.specs.declared.leaf.Leaf.TheVariants as as_leaf
 use Rattle.tt_data.specs.declared.leaf.Punct.{Punct}
 use Rattle.tt_data.specs.declared.span.Span.{Span}
+use Rattle.expander_model.specs.declared.dialect.Dialect.{Dialect}
 use Rattle.expander_model.specs.declared.fault.FaultKind.{FaultKind}
 use Rattle.expander_model.specs.declared.fault.FaultKind.TheVariants.{CannotExpand, BrokenDefinition, RecursionLimit}
 use Rattle.expander_model.specs.Calls.{Path, other, Marked, none, token, inside, call, marked, unmarked, in_front, key_of}
@@ -17,12 +18,13 @@ pub record PlacedStep : Type 0 where
   pub outer : Option Span
 
 -- what definitions mean: which are invalid, the forest that a definition gives for a call's
--- argument, or none, and where that makes too many tokens
+-- argument, or none, and where that makes too many tokens; and by which options a text is expanded
 pub record World (D : Type 0) : Type 0 where
   pub broken : D → Bool
   pub fit : D → Forest → Option Forest
   -- whether a call of a definition with this argument makes more tokens than a tree may have
   pub bursts : D → Forest → Bool
+  pub dialect : Dialect
 
 -- the result of an expansion
 pub record Outcome (D : Type 0) : Type 0 where

@@ -8,10 +8,11 @@ use Rattle.tt_data.specs.declared.span.Span.{Span}
 use Rattle.tt_data.specs.declared.span.SyntaxContext.TheVariants.{Written}
 use Rattle.expander_model.specs.Changes.{outcome_with}
 use Rattle.expander_model.specs.Definitions.{Definition, definition_of}
-use Rattle.expander_model.specs.Expansion.{World, Outcome, expansion}
+use Rattle.expander_model.specs.Expansion.{World, Outcome}
 use Rattle.expander_model.specs.Meaning.{Member, plain, defining}
 use Rattle.expander_model.specs.OtherPlaces.{definition_with}
 use Rattle.expander_model.specs.Pieces.{first_start, relative}
+use Rattle.expander_model.specs.Scoping.{expanded}
 use Rattle.small_grammar.specs.Text.{same_text}
 
 -- every span in a forest has this property
@@ -86,6 +87,7 @@ numbered_world world = record {
   broken = λ d. world.broken (anchored_definition d);
   fit = λ d argument. world.fit (anchored_definition d) argument;
   bursts = λ d argument. world.bursts (anchored_definition d) argument;
+  dialect = world.dialect;
 }
 
 -- what a name resolves to among the definitions before, which are given nearest first
@@ -152,7 +154,8 @@ module _ (world : World Definition) (depth : ℕ) (number_of : Forest → ℕ) w
   abbrev pub kept_of : List Met → Forest → Option Definition → Kept
   kept_of before piece (Some d) = met (met_of piece d)
   kept_of before piece None =
-      kept (first_start piece) before (relative piece) (expansion (numbered_world world) (numbered_scope before) depth None (relative piece))
+      kept (first_start piece) before (relative piece)
+      (expanded (numbered_world world) unnumbered (numbered_scope before) depth (relative piece))
 
   -- the pieces in order, each in the scope of the definitions before it, given nearest first
   abbrev pub kept_after : List Met → List Forest → List Kept

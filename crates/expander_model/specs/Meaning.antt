@@ -8,7 +8,8 @@ use Rattle.expander_model.specs.declared.fault.FaultKind.TheVariants.{BrokenDefi
 use Rattle.bridge.specs.declared.reading.outcome.ReadFault.{ReadFault}
 use Rattle.expander_model.specs.Pieces.{pieces}
 use Rattle.expander_model.specs.Definitions.{Definition, definition_of, nearest}
-use Rattle.expander_model.specs.Expansion.{World, Outcome, PlacedStep, expansion}
+use Rattle.expander_model.specs.Expansion.{World, Outcome, PlacedStep}
+use Rattle.expander_model.specs.Scoping.{expanded}
 use Rattle.expander_model.specs.Printing.{PrintedToken, visible, printed, left_out, text_of}
 use Rattle.expander_model.specs.Faults.{fault_at, nested, unspellable, in_order}
 
@@ -71,7 +72,8 @@ module _ (layers : Layers) (depth : ℕ) where
   -- a piece in the scope of the definitions before it, which are given nearest first
   abbrev pub member : List Definition → Forest → Option Definition → Member
   member before piece (Some d) = defining d
-  member before piece None = plain piece (expansion layers.world (nearest before) depth None piece)
+  member before piece None =
+      plain piece (expanded layers.world (λ d. d) (nearest before) depth piece)
 
   abbrev pub members_after : List Definition → List Forest → List Member
   members_after before [] = []

@@ -1,22 +1,29 @@
 -- Rust's textual scope, as tokens show it: definitions in lists of trees, and those that calls
 -- make. (The Rust Reference, "Macros By Example", "Scoping, exporting, and importing".)
-use Rattle.std.specs.Prelude.{ℕ, zero, suc, Bool, true, false, List, [], ◌∷◌, ◌++◌, Option, Some, None, unwrap_or, if◌then◌else◌}
+use Rattle.std.specs.Prelude.{ℕ, zero, suc, Bool, true, false, ◌&&◌, not, List, [], ◌∷◌, ◌++◌, Option, Some, None, is_some, option_map, unwrap_or, if◌then◌else◌}
 use Rattle.tt_data.specs.Forest.{Forest, size}
 use Rattle.tt_data.specs.Walk.{Step, at_leaf, walk}
 use Rattle.tt_data.specs.declared.delimiter.Delimiter.{Delimiter}
 use Rattle.tt_data.specs.declared.leaf.Ident.{Ident}
 use Rattle.tt_data.specs.declared.leaf.Punct.{Punct}
 use Rattle.tt_data.specs.declared.span.Span.{Span}
-use Rattle.bridge.specs.Text.{is_visible}
+use Rattle.bridge.specs.Text.{is_visible, same_kind}
+use Rattle.tt_data.specs.declared.delimiter.DelimiterKind.{DelimiterKind}
+use Rattle.tt_data.specs.declared.delimiter.DelimiterKind.TheVariants.{Brace}
+use Rattle.tt_data.specs.declared.leaf.Leaf.{Leaf}
 use Rattle.expander_model.specs.declared.fault.FaultKind.TheVariants.{CannotExpand, BrokenDefinition, RecursionLimit}
 use Rattle.expander_model.specs.Calls.{Path, bare, from_crate, other, Marked, none, token, inside, call, marked, unmarked, key_of}
-use Rattle.expander_model.specs.Definitions.{Definition, definition_of, nearest}
+use Rattle.expander_model.specs.Definitions.{Definition, definition_of, nearest, or_else}
 use Rattle.expander_model.specs.Expansion.{World, Outcome, CallSite, just, followed_by, grouped, faulted, found, bursting, stays, before_group, whole_call}
 use Rattle.expander_model.specs.Pieces.{cut}
+use Rattle.expander_model.specs.PieceStates.{after_call, after_group, after_leaf, holds_items, is_at_start, is_dropped}
+use Rattle.expander_model.specs.declared.begun.Begun.{Begun}
+use Rattle.expander_model.specs.declared.begun.Begun.TheVariants.{Nothing}
+use Rattle.expander_model.specs.declared.dialect.Dialect.{Dialect}
 use Rattle.expander_model.specs.declared.scope_rules.ScopeRules.{ScopeRules}
 use Rattle.expander_model.specs.declared.scope_rules.ScopeRules.TheVariants.{TopLevel, Rust}
 use Rattle.expander_model.specs.declared.scope_rules.Standing.{Standing}
-use Rattle.expander_model.specs.declared.scope_rules.Standing.TheVariants.{Top, Enclosed, Argument}
+use Rattle.expander_model.specs.declared.scope_rules.Standing.TheVariants.{Top, Enclosed, Items, Argument}
 
 -- what is around a list: where it is, the name of the outermost call that gave it or none, and the
 -- definitions before it in the lists around it, the nearest first
@@ -38,25 +45,39 @@ pub record Scoped (D : Type 0) : Type 0 where
 abbrev pub Search : Type 0 → Type 0
 Search D = Around → Forest → Scoped D
 
--- the parts that a list is searched by: its pieces, or itself where it has no definitions
-abbrev pub parts : ScopeRules → Forest → List Forest
-parts TopLevel f = f ∷ []
-parts Rust f = cut f
-
--- the definition that a part of a list is, or none
+-- the definition that a piece of a list is, or none
 abbrev pub definition_in : ScopeRules → Forest → Option Definition
-definition_in TopLevel part = None
-definition_in Rust part = definition_of part
+definition_in TopLevel piece = None
+definition_in Rust piece = definition_of piece
 
 -- a definition in a visible group is left out of the output: what could find it was expanded
 abbrev pub is_left_out : Standing → Bool
 is_left_out Enclosed = true
+is_left_out Items = true
 is_left_out _ = false
 
--- where the list in a group is
-abbrev pub in_group : Delimiter → Standing → Standing
-in_group d Top = if is_visible d.kind then Enclosed else Top
-in_group d standing = standing
+-- a list of items
+abbrev pub is_items : Standing → Bool
+is_items Top = true
+is_items Items = true
+is_items _ = false
+
+-- where the list in a visible group is
+abbrev pub in_brackets_of : Bool → Standing → Standing
+in_brackets_of items Argument = Argument
+in_brackets_of true standing = Items
+in_brackets_of false standing = Enclosed
+
+-- where the list in a group is, before which so much came of its piece
+abbrev pub in_group : Begun → DelimiterKind → Standing → Standing
+in_group s k standing =
+    if is_visible k then in_brackets_of (holds_items s k) standing else standing
+
+-- a call that stands alone in a list of items, in parentheses or brackets, before which so much
+-- came of its piece
+abbrev pub is_alone_in : Dialect → Begun → Standing → Delimiter → Bool
+is_alone_in dialect s standing d =
+    dialect.items && (is_items standing && (is_at_start s && not (same_kind d.kind Brace)))
 
 -- what is around what follows these definitions
 abbrev pub behind : List Definition → Around → Around
@@ -80,7 +101,7 @@ in_brackets outer d a = record {
 }
 
 -- `local` makes a definition of a list one of `world`; `scope` is what names find outside of lists
-module _ {D : Type 0} (rules : ScopeRules) (world : World D) (local : Definition → D)
+module _ {D : Type 0} (dialect : Dialect) (world : World D) (local : Definition → D)
     (scope : List ℕ → Option D) where
   -- a definition enters the scope; where it isn't left out it is printed as it is
   abbrev pub defined : Around → Definition → Scoped D
@@ -136,43 +157,80 @@ module _ {D : Type 0} (rules : ScopeRules) (world : World D) (local : Definition
       only (followed_by (just around.outer (walk (before_group path name bang)))
       (grouped around.outer d (search (record around { standing = Argument }) inner).outcome))
 
-  -- trees whose calls are marked, from left to right; `search` searches what a group holds
-  abbrev pub search_trees : Search D → Option (Search D) → Around → Marked → Scoped D
-  search_trees search deeper around none = only (just around.outer [])
-  search_trees search deeper around (token l rest) =
-      and_next (only (just around.outer (at_leaf l ∷ [])))
-      (λ here. search_trees search deeper here rest) around
-  search_trees search deeper around (inside d a rest) =
-      let inner : Around = record around { standing = in_group d around.standing } in
+  -- what a call's name finds: in the lists around it, or else outside
+  abbrev pub found_at : Around → Path → Ident → Option D
+  found_at around bare name =
+      or_else (option_map local (nearest around.locals name.sym)) (scope name.sym)
+  found_at around (from_crate root first second) name =
+      scope (key_of (from_crate root first second) name)
+  found_at around (other first second) name = None
+
+  -- what it finds is valid, a level is left, and a rule fits: then the call is expanded
+  abbrev pub is_expanded : Option (Search D) → Option D → Forest → Bool
+  is_expanded (Some search) (Some d) argument =
+      not (world.broken d) && is_some (world.fit d argument)
+  is_expanded deeper found argument = false
+
+  -- a `;` right behind such a call goes with it, if it is expanded
+  abbrev pub takes_end : Option (Search D) → Begun → Around → Path → Ident → Delimiter → Forest
+      → Bool
+  takes_end deeper s around path name d argument =
+      is_alone_in dialect s around.standing d
+      && is_expanded deeper (found_at around path name) argument
+
+  -- a leaf as it is, unless it is a `;` that went with a call
+  abbrev pub search_leaf : Begun → Around → Leaf → Scoped D
+  search_leaf s around l =
+      only (just around.outer (if is_dropped s l then [] else at_leaf l ∷ []))
+
+  -- trees whose calls are marked, from left to right, before which so much came of their piece;
+  -- `search` searches what a group holds
+  abbrev pub search_trees : Search D → Option (Search D) → Begun → Around → Marked → Scoped D
+  search_trees search deeper s around none = only (just around.outer [])
+  search_trees search deeper s around (token l rest) =
+      and_next (search_leaf s around l)
+      (λ here. search_trees search deeper (after_leaf s l) here rest) around
+  search_trees search deeper s around (inside d a rest) =
+      let inner : Around = record around { standing = in_group s d.kind around.standing } in
       and_next (in_brackets around.outer d (search inner (unmarked a)))
-      (λ here. search_trees search deeper here rest) around
-  search_trees search deeper around (call path name bang d a rest) =
+      (λ here. search_trees search deeper (after_group s d.kind) here rest) around
+  search_trees search deeper s around (call path name bang d a rest) =
       let whole : Forest = whole_call path name bang d (unmarked a) in
+      let gone : Bool = takes_end deeper s around path name d (unmarked a) in
       and_next (at_call deeper around path name
       (record { at = name.span; whole = whole; argument = unmarked a })
       (kept_call search around path name bang d (unmarked a)))
-      (λ here. search_trees search deeper here rest) around
+      (λ here. search_trees search deeper (after_call gone s d.kind) here rest) around
 
-  -- a part of a list: a definition, or trees
-  abbrev pub search_part : Search D → Option (Search D) → Around → Forest → Option Definition
+  -- a piece of a list: a definition, or trees
+  abbrev pub search_piece : Search D → Option (Search D) → Around → Forest → Option Definition
       → Scoped D
-  search_part search deeper around part (Some d) = defined around d
-  search_part search deeper around part None = search_trees search deeper around (marked part)
+  search_piece search deeper around piece (Some d) = defined around d
+  search_piece search deeper around piece None =
+      search_trees search deeper Nothing around (marked piece)
 
-  -- the parts of a list, each in the scope of what those before it define
-  abbrev pub search_parts : Search D → Option (Search D) → Around → List Forest → Scoped D
-  search_parts search deeper around [] = only (just around.outer [])
-  search_parts search deeper around (p ∷ ps) =
-      and_next (search_part search deeper around p (definition_in rules p))
-      (λ here. search_parts search deeper here ps) around
+  -- the pieces of a list, each in the scope of what those before it define
+  abbrev pub search_pieces : Search D → Option (Search D) → Around → List Forest → Scoped D
+  search_pieces search deeper around [] = only (just around.outer [])
+  search_pieces search deeper around (p ∷ ps) =
+      and_next (search_piece search deeper around p (definition_in dialect.scope p))
+      (λ here. search_pieces search deeper here ps) around
 
   -- a list whose groups nest less than n deep, as those of any list with fewer than n tokens do
   abbrev pub search_list : Option (Search D) → ℕ → Search D
   search_list deeper zero around f = only (just around.outer [])
   search_list deeper (suc n) around f =
-      search_parts (search_list deeper n) deeper around (parts rules f)
+      search_pieces (search_list deeper n) deeper around (cut f)
 
   -- the expansion of a list with n levels left
   abbrev pub scoped : ℕ → Search D
   scoped zero around f = search_list None (suc (size f)) around f
   scoped (suc n) around f = search_list (Some (scoped n)) (suc (size f)) around f
+
+-- the expansion of a tree with n levels left by the rules of this world, in the scope of what is
+-- around the tree; `local` makes a definition of a list one of the world
+abbrev pub expanded : {D : Type 0} → World D → (Definition → D) → (List ℕ → Option D) → ℕ → Forest
+    → Outcome D
+expanded world local scope depth tree =
+    let around : Around = without_locals Top None in
+    (scoped world.dialect world local scope depth around tree).outcome

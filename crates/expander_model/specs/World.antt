@@ -14,6 +14,7 @@ use Rattle.mbe.specs.Markers.{is_name}
 use Rattle.expander_model.specs.Definitions.{Definition}
 use Rattle.expander_model.specs.EditionMarks.{edition_in}
 use Rattle.expander_model.specs.Expansion.{World}
+use Rattle.expander_model.specs.declared.dialect.Dialect.{Dialect}
 
 -- the rules of a definition, all of whose identifiers are of this edition, with its first fault
 abbrev pub rules_by : Edition → Definition → Rules
@@ -32,9 +33,11 @@ made span = record span { ctx = Made }
 abbrev pub fit_of : Grammar → Rules → Forest → Option Forest
 fit_of grammar rules argument = option_map (λ r. r.1) (fit is_name grammar made rules.list FnLike argument)
 
-abbrev pub world : Grammar → Edition → World Definition
-world grammar edition = record {
+-- what definitions mean by this grammar, edition and dialect
+abbrev pub world : Grammar → Edition → Dialect → World Definition
+world grammar edition dialect = record {
   broken = λ d. is_some (rules_in edition d).err;
   fit = λ d argument. fit_of grammar (rules_in edition d) argument;
   bursts = λ d argument. made_by.bursts is_name grammar made (rules_in edition d).list FnLike argument;
+  dialect = dialect;
 }

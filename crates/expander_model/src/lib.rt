@@ -6,6 +6,7 @@ pub mod begun;
 pub mod boundary;
 pub mod call;
 pub mod definition;
+pub mod dialect;
 pub mod edition_mark;
 pub mod fault;
 pub mod hashed_tree;

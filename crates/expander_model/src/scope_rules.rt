@@ -16,6 +16,8 @@ pub enum Standing {
     Top,
     /// In a visible group.
     Enclosed,
+    /// In the braces of a module, an implementation, a trait or an `extern` block.
+    Items,
     /// In the argument of a call that stays.
     Argument,
 }

@@ -1,5 +1,5 @@
 -- Small runs and calls, as worked examples.
-use Rattle.std.proofs.Common.{◌≡◌, ℕ, List, [], ◌∷◌, ◌++◌, Option, Some, Bool, true, false, refl, ap, arith}
+use Rattle.std.proofs.Common.{◌≡◌, ℕ, zero, suc, List, [], ◌∷◌, ◌++◌, Option, Some, Bool, true, false, refl, ap, arith, unwrap_or, if◌then◌else◌}
 use Rattle.std.specs.Prelude.{Ok, Err, None, ◌||◌, codes, decimal}
 use Rattle.std.specs.List.{list_any}
 use Rattle.std.proofs.lemmas.Fmt.{decimal_digit}
@@ -10,18 +10,27 @@ use Rattle.expander_run.specs.Runs.{IsFlushed, Refuses, Runs, status, status_by}
 use Rattle.expander_run.specs.declared.program.Status.{Status}
 use Rattle.expander_run.specs.declared.stop.Stop.{Stop}
 use Rattle.expander_run.specs.declared.stop.Stop.TheVariants.{ReadFailed}
-use Rattle.expander_model.specs.Calls.{Path, bare, from_crate, other, Marked, none, token, inside, call, key_of, marked}
+use Rattle.expander_model.specs.Calls.{Path, bare, from_crate, other, Marked, none, token, inside, call, key_of, marked, unmarked}
 use Rattle.expander_model.specs.Definitions.{Definition, definition_of, nearest}
-use Rattle.expander_model.specs.Expansion.{World, Outcome, CallSite, unbroken, looked_up, at_call, search_calls}
+use Rattle.expander_model.specs.Expansion.{World, Outcome, CallSite, just, faulted, whole_call}
 use Rattle.expander_session.specs.Replies.{NeedsNumbers}
 use Rattle.expander_model.specs.Meaning.{Layers, member, members_after, with_definition}
+use Rattle.expander_model.specs.Scoping.{Around, Scoped, Search, definition_in, is_left_out, in_group, behind, without_locals, and_next, in_brackets, defined, unbroken, looked_up, at_key, at_call, kept_call, search_leaf, takes_end, search_trees, search_piece, search_pieces, search_list}
+use Rattle.expander_model.specs.PieceStates.{after_call, after_group, after_leaf}
+use Rattle.expander_model.specs.Pieces.{cut}
+use Rattle.expander_model.specs.declared.begun.Begun.{Begun}
+use Rattle.expander_model.specs.declared.begun.Begun.TheVariants.{Nothing}
+use Rattle.expander_model.specs.declared.dialect.Dialect.{Dialect}
+use Rattle.expander_model.specs.declared.scope_rules.Standing.TheVariants.{Top, Argument}
 use Rattle.expander_session.specs.TooMany.{bursts}
 use Rattle.expander_session.specs.declared.session.Reply.TheVariants.{Unread}
-use Rattle.tt_data.specs.Forest.{Forest}
+use Rattle.tt_data.specs.Forest.{Forest, size}
+use Rattle.tt_data.specs.Walk.{walk}
+use Rattle.tt_data.specs.declared.delimiter.Delimiter.{Delimiter}
 use Rattle.tt_data.specs.declared.leaf.Ident.{Ident}
-use Rattle.tt_data.specs.declared.span.Span.{Span}
+use Rattle.tt_data.specs.declared.leaf.Punct.{Punct}
 use Rattle.expander_model.specs.declared.fault.Fault.{Fault}
-use Rattle.expander_model.specs.declared.fault.FaultKind.TheVariants.{RecursionLimit}
+use Rattle.expander_model.specs.declared.fault.FaultKind.TheVariants.{BrokenDefinition, RecursionLimit}
 
 -- a byte of which nothing was taken is a write that failed
 nothing_evaluated : is_bad_write {E = ℕ} (120 ∷ []) (Ok 0) ≡ true
@@ -115,29 +124,81 @@ neither : (a b : Bool) → a ≡ false → b ≡ false → (a || b) ≡ false
 neither false b e d = d
 neither true b e d = cc
 
-module _ (world : World Definition) (scope : List ℕ → Option Definition) (outer : Option Span) where
-  said : (d : Definition) (broken : Bool) (site : CallSite) → (unbroken world d broken None outer site).bursts ≡ false
-  said d true site = refl
-  said d false site = refl
+abbrev IsSmall : Scoped Definition → Type 0
+IsSmall a = a.outcome.bursts ≡ false
 
-  looked : (o : Option Definition) (site : CallSite) (kept : Outcome Definition) → kept.bursts ≡ false → (looked_up world o None outer site kept).bursts ≡ false
-  looked None site kept e = e
-  looked (Some d) site kept e = said d (world.broken d) site
+module _ (dialect : Dialect) (world : World Definition) (local : Definition → Definition) (scope : List ℕ → Option Definition) where
+  small_next : (a : Scoped Definition) (next : Around → Scoped Definition) (around : Around) → IsSmall a → ((here : Around) → IsSmall (next here)) → IsSmall (and_next a next around)
+  small_next a next around h more = neither a.outcome.bursts (next (behind a.defines around)).outcome.bursts h (more (behind a.defines around))
 
-  called : (path : Path) (name : Ident) (site : CallSite) (kept : Outcome Definition) → kept.bursts ≡ false
-      → (at_call world scope None outer path name site kept).bursts ≡ false
-  called bare name site kept e = looked (scope name.sym) site kept e
-  called (from_crate crate p q) name site kept e = looked (scope (key_of (from_crate crate p q) name)) site kept e
-  called (other p q) name site kept e = e
+  small_defined : (around : Around) (d : Definition) → IsSmall (defined dialect world local scope around d)
+  small_defined around d = go (world.broken (local d))
+    where
+      shown : Outcome Definition
+      shown = just around.outer (if is_left_out around.standing then [] else walk d.piece)
 
-  searched_quietly : (m : Marked) → (search_calls world scope None outer m).bursts ≡ false
-  searched_quietly none = refl
-  searched_quietly (token l rest) = searched_quietly rest
-  searched_quietly (inside d a rest) = neither _ _ (searched_quietly a) (searched_quietly rest)
-  searched_quietly (call path name bang d a rest) = neither _ _ (called path name _ _ (searched_quietly a)) (searched_quietly rest)
+      go : (b : Bool) → (if b then faulted BrokenDefinition (unwrap_or around.outer d.name.span) shown else shown).bursts ≡ false
+      go true = refl
+      go false = refl
 
+  small_unbroken : (d : Definition) (broken : Bool) (around : Around) (site : CallSite) → IsSmall (unbroken dialect world local scope d broken None around site)
+  small_unbroken d true around site = refl
+  small_unbroken d false around site = refl
+
+  small_looked_up : (o : Option Definition) (around : Around) (site : CallSite) (kept : Scoped Definition) → IsSmall kept
+      → IsSmall (looked_up dialect world local scope o None around site kept)
+  small_looked_up None around site kept h = h
+  small_looked_up (Some d) around site kept h = small_unbroken d (world.broken d) around site
+
+  small_key : (o : Option Definition) (key : List ℕ) (around : Around) (site : CallSite) (kept : Scoped Definition) → IsSmall kept
+      → IsSmall (at_key dialect world local scope o key None around site kept)
+  small_key (Some d) key around site kept h = small_looked_up (Some (local d)) around site kept h
+  small_key None key around site kept h = small_looked_up (scope key) around site kept h
+
+  small_call : (path : Path) (name : Ident) (around : Around) (site : CallSite) (kept : Scoped Definition) → IsSmall kept
+      → IsSmall (at_call dialect world local scope None around path name site kept)
+  small_call bare name around site kept h = small_key (nearest around.locals name.sym) name.sym around site kept h
+  small_call (from_crate root p q) name around site kept h = small_key None (key_of (from_crate root p q) name) around site kept h
+  small_call (other p q) name around site kept h = h
+
+  module _ (search : Search Definition) (all : (around : Around) (f : Forest) → IsSmall (search around f)) where
+    small_kept : (around : Around) (path : Path) (name : Ident) (bang : Punct) (d : Delimiter) (inner : Forest)
+        → IsSmall (kept_call dialect world local scope search around path name bang d inner)
+    small_kept around path name bang d inner = all (record around { standing = Argument }) inner
+
+    small_trees : (s : Begun) (around : Around) (m : Marked) → IsSmall (search_trees dialect world local scope search None s around m)
+    small_trees s around none = refl
+    small_trees s around (token l rest) =
+        small_next (search_leaf dialect world local scope s around l) (λ here. search_trees dialect world local scope search None (after_leaf s l) here rest)
+        around refl (λ here. small_trees (after_leaf s l) here rest)
+    small_trees s around (inside d a rest) =
+        let inner : Around = record around { standing = in_group s d.kind around.standing } in
+        small_next (in_brackets around.outer d (search inner (unmarked a))) (λ here. search_trees dialect world local scope search None (after_group s d.kind) here rest)
+        around (all inner (unmarked a)) (λ here. small_trees (after_group s d.kind) here rest)
+    small_trees s around (call path name bang d a rest) =
+        let behind_it : Begun = after_call (takes_end dialect world local scope None s around path name d (unmarked a)) s d.kind in
+        let site : CallSite = record { at = name.span; whole = whole_call path name bang d (unmarked a); argument = unmarked a } in
+        let kept : Scoped Definition = kept_call dialect world local scope search around path name bang d (unmarked a) in
+        small_next (at_call dialect world local scope None around path name site kept) (λ here. search_trees dialect world local scope search None behind_it here rest)
+        around (small_call path name around site kept (small_kept around path name bang d (unmarked a))) (λ here. small_trees behind_it here rest)
+
+    small_part : (around : Around) (p : Forest) (d : Option Definition) → IsSmall (search_piece dialect world local scope search None around p d)
+    small_part around p (Some d) = small_defined around d
+    small_part around p None = small_trees Nothing around (marked p)
+
+    small_parts : (around : Around) (ps : List Forest) → IsSmall (search_pieces dialect world local scope search None around ps)
+    small_parts around [] = refl
+    small_parts around (p ∷ ps) =
+        small_next (search_piece dialect world local scope search None around p (definition_in dialect.scope p)) (λ here. search_pieces dialect world local scope search None here ps)
+        around (small_part around p (definition_in dialect.scope p)) (λ here. small_parts here ps)
+
+  small_list : (n : ℕ) (around : Around) (f : Forest) → IsSmall (search_list dialect world local scope None n around f)
+  small_list zero around f = refl
+  small_list (suc n) around f = small_parts (search_list dialect world local scope None n) (small_list n) around (cut f)
+
+-- by whatever dialect
 quiet_member : (layers : Layers) (before : List Definition) (p : Forest) (d : Option Definition) → bursts (member layers 0 before p d) ≡ false
-quiet_member layers before p None = searched_quietly layers.world (nearest before) None (marked p)
+quiet_member layers before p None = small_list layers.world.dialect layers.world (λ d. d) (nearest before) (suc (size p)) (without_locals Top None) p
 quiet_member layers before p (Some d) = refl
 
 never_without_a_level : (layers : Layers) (before : List Definition) (ps : List Forest) → list_any bursts (members_after layers 0 before ps) ≡ false

@@ -7,6 +7,7 @@ use Rattle.small_grammar.specs.Answer.{answer}
 use Rattle.expander_session.specs.Expanded.{Expanded}
 use Rattle.expander_session.specs.Layered.{layers}
 use Rattle.expander_run.specs.Lines.{report, stop_line}
+use Rattle.expander_model.specs.Dialects.{top_level}
 use Rattle.expander_model.specs.Meaning.{Layers, meaning_in}
 use Rattle.expander_session.specs.Replies.{IsReplyIn, NeedsNumbersIn}
 use Rattle.expander_session.specs.State.{definitions_of}
@@ -39,13 +40,14 @@ pub record IsNoText (input : Option (List ℕ)) (bytes : List ℕ) : Type 0 wher
   pub short : length bytes < 2 ^ 32
   pub not_utf8 : IsUtf8 bytes → ⊥
 
--- what a run expands by: the answers of its grammar, and its edition for all identifiers
+-- what a run expands by: the answers of its grammar, its edition for all identifiers, its dialect
 abbrev pub layers_of : {G : Type 0} → (G → Grammar) → Options G → Layers
-layers_of answer_of options = layers (answer_of options.grammar) options.edition
+layers_of answer_of options =
+    layers (answer_of options.grammar) options.edition options.dialect
 
--- `run` expands by the small grammar, in edition 2024
+-- `run` expands by the small grammar, in edition 2024, where names find pieces of texts alone
 abbrev pub run_layers : Layers
-run_layers = layers answer Edition2024
+run_layers = layers answer Edition2024 top_level
 
 -- the printed text of a reply: nothing if the text could not be read
 abbrev pub printed_of : Reply → List ℕ

@@ -14,6 +14,7 @@ use crate::lines::{report, stop_line};
 use crate::options::Options;
 use crate::stop::Stop;
 use crate::watched::Watched;
+use expander_model::dialect::Dialect;
 use expander_scope::refusal::Refusal;
 use expander_session::laws;
 use expander_session::session::{Reply, Session};
@@ -29,7 +30,8 @@ use tt_data::Edition;
 pub struct Status(pub u8);
 
 /// Reads a text to its end, expands it with `depth` levels by the small grammar in edition 2024,
-/// writes and flushes what it prints, and reports its faults.
+/// where names find pieces of the text alone, writes and flushes what it prints, and reports its
+/// faults.
 ///
 /// The status is 0 if the text was read and has no fault, else 1. If the run stops or the text has
 /// a reading fault, nothing is written, except that a failed write leaves the first bytes of the
@@ -60,16 +62,18 @@ pub fn run<R: Read, W: Write, E: Write>(
     let options = Options {
         grammar: SmallGrammar,
         edition: Edition::Edition2024,
+        dialect: Dialect::top_level(),
         depth,
     };
     run_with(alloc, reader, writer, faults, options)
 }
 
-/// Runs as [`run`] does, by a grammar, an edition and a number of levels that the caller chooses.
+/// Runs as [`run`] does, by a grammar, an edition, a dialect and a number of levels that the
+/// caller chooses.
 ///
 /// What is read, written and reported, and the status, are as `run` has them, with `options` in
-/// place of the small grammar, edition 2024 and `depth`. None of the three streams has failed
-/// before.
+/// place of the small grammar, edition 2024, `Dialect::top_level()` and `depth`. None of the three
+/// streams has failed before.
 pub fn run_with<G: FragmentGrammar + Drop, R: Read, W: Write, E: Write>(
     alloc: Global,
     reader: &mut Watched<R>,
@@ -172,9 +176,10 @@ fn expanded<G: FragmentGrammar + Drop>(
     let Options {
         grammar,
         edition,
+        dialect,
         depth,
     } = options;
-    let mut session = Session::new(alloc, text, grammar, edition, depth)?;
+    let mut session = Session::with_dialect(alloc, text, grammar, edition, dialect, depth)?;
     session.set_prelude(prelude);
     session.expansion()
 }

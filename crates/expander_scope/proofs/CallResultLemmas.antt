@@ -9,14 +9,14 @@ use Rattle.bridge.specs.Text.{is_visible}
 use Rattle.expander_model.specs.CallSteps.{key_at}
 use Rattle.expander_model.specs.Calls.{Path, bare, from_crate, other, key_of}
 use Rattle.expander_model.specs.Definitions.{Definition, nearest, or_else}
-use Rattle.expander_model.specs.Expansion.{World, Outcome, CallSite, PlacedStep, expansion, faulted, placed, just, followed_by, bursting, stays, before_group, whole_call}
+use Rattle.expander_model.specs.Expansion.{World, Outcome, CallSite, PlacedStep, faulted, placed, just, followed_by, bursting, stays, before_group, whole_call}
 use Rattle.expander_model.specs.Held.{Numbered, unnumbered}
-use Rattle.expander_model.specs.PieceStates.{after_group}
-use Rattle.expander_model.specs.Scoping.{Around, Scoped, at_call, at_key, fitted, in_brackets, kept_call, looked_up, only, scoped, unbroken, without_locals}
-use Rattle.expander_model.specs.declared.begun.Begun.TheVariants.{Other}
+use Rattle.expander_model.specs.Dialects.{top_level}
+use Rattle.expander_model.specs.PieceStates.{after_call}
+use Rattle.expander_model.specs.Scoping.{Around, Scoped, Search, at_call, at_key, expanded, fitted, found_at, in_brackets, is_alone_in, is_expanded, kept_call, looked_up, only, scoped, unbroken, without_locals}
+use Rattle.expander_model.specs.declared.begun.Begun.{Begun}
+use Rattle.expander_model.specs.declared.dialect.Dialect.{Dialect}
 use Rattle.expander_model.specs.declared.call.Call.{Call}
-use Rattle.expander_model.specs.declared.scope_rules.ScopeRules.{ScopeRules}
-use Rattle.expander_model.specs.declared.scope_rules.ScopeRules.TheVariants.{TopLevel}
 use Rattle.expander_model.specs.declared.scope_rules.Standing.TheVariants.{Argument, Top}
 use Rattle.expander_model.specs.declared.fault.FaultKind.{FaultKind}
 use Rattle.expander_model.specs.declared.fault.FaultKind.TheVariants.{CannotExpand, BrokenDefinition, RecursionLimit}
@@ -26,10 +26,9 @@ use Rattle.expander_scope.specs.Outcomes.{find_of, parts_of}
 use Rattle.expander_scope.specs.Sinks.{TakesMore}
 use Rattle.expander_scope.specs.Turns.{begun_behind, broken_at, is_bare, kept_left, local_at, lookups_of, resolved}
 use Rattle.expander_scope.specs.declared.expand.Expanding.{Expanding}
-use Rattle.expander_scope.proofs.ListLemmas.{IsPlain, called_in, here_in, left_call, passed_in, scoped_is, then_assoc}
+use Rattle.expander_scope.proofs.ListLemmas.{IsPlain, called_in, here_in, left_call, passed_in, scoped_is, takes_in, then_assoc}
 use Rattle.expander_scope.proofs.OutcomeLemmas.{or_first, or_later}
 use Rattle.expander_scope.proofs.SinkLemmas.{takes_both}
-use Rattle.textual_scope.proofs.RuleLemmas.{top_level}
 use Rattle.expander_scope.proofs.TurnLemmas.{IsCall, is_open, names_alone, joined_call, visible_call}
 
 -- look-ups alone
@@ -95,13 +94,13 @@ module _ {S : Type 0} (Has : S → List PlacedStep → Type 0) where
 
 -- ---- what a definition says
 
-module _ (rules : ScopeRules) (world : World Numbered) (scope : List ℕ → Option Numbered) (r : ScopeRules) (d : Numbered) (around : Around) (site : CallSite) where
+module _ (dialect : Dialect) (world : World Numbered) (scope : List ℕ → Option Numbered) (d : Numbered) (around : Around) (site : CallSite) where
   abbrev of_call : Bool → ℕ → Scoped Numbered
-  of_call broken depth = unbroken r world unnumbered scope d broken (deeper_at rules world scope depth) around site
+  of_call broken depth = unbroken dialect world unnumbered scope d broken (deeper_at dialect world scope depth) around site
 
   -- the search of a result, one level deeper
   abbrev pub deeper : ℕ → Forest → Scoped Numbered
-  deeper depth g = searched rules world scope (depth - 1) (record around { outer = Some (unwrap_or around.outer site.at) }) g
+  deeper depth g = searched dialect world scope (depth - 1) (record around { outer = Some (unwrap_or around.outer site.at) }) g
 
   abbrev pub bursting_too : Bool → Scoped Numbered → Scoped Numbered
   bursting_too b a = record a { outcome = bursting b a.outcome }
@@ -115,7 +114,7 @@ module _ (rules : ScopeRules) (world : World Numbered) (scope : List ℕ → Opt
       let is : CannotExpand ≡ kind = cc in
       let b : Bool = world.bursts d site.argument in (
         b,
-        ap (λ o. bursting_too b (fitted r world unnumbered scope (scoped rules world unnumbered scope n) around site o)) fits
+        ap (λ o. bursting_too b (fitted dialect world unnumbered scope (scoped dialect world unnumbered scope n) around site o)) fits
             ∙ ap (λ k. only (bursting b (stays k around.outer site))) is,
       )
   stays_at false (suc n) (Some g) kind fits e = absurd (cc e)
@@ -136,8 +135,8 @@ module _ (rules : ScopeRules) (world : World Numbered) (scope : List ℕ → Opt
       let at : Around = record around { outer = Some (unwrap_or around.outer site.at) } in
       let less : n ≡ suc n - 1 = omega arith in (
         omega arith,
-        ap (λ o. bursting_too b (fitted r world unnumbered scope (scoped rules world unnumbered scope n) around site o)) fits
-            ∙ ap (bursting_too b) (ap (scoped rules world unnumbered scope n at) is ∙ scoped_is rules world scope n n at g ∙ ap (λ m. searched rules world scope m at g) less),
+        ap (λ o. bursting_too b (fitted dialect world unnumbered scope (scoped dialect world unnumbered scope n) around site o)) fits
+            ∙ ap (bursting_too b) (ap (scoped dialect world unnumbered scope n at) is ∙ scoped_is dialect world scope n n at g ∙ ap (λ m. searched dialect world scope m at g) less),
       )
 
   pub comes_is : (depth : ℕ) (g : Forest) → answer world d depth site.argument ≡ Ok g
@@ -152,10 +151,43 @@ module _ (rules : ScopeRules) (world : World Numbered) (scope : List ℕ → Opt
   bursts_is zero e = absurd (cc e)
   bursts_is (suc n) e = bursts_at (world.broken d) n e
 
+and_false : (b : Bool) → (b && false) ≡ false
+and_false true = refl
+and_false false = refl
+
+and_true : (b : Bool) → (b && true) ≡ b
+and_true true = refl
+and_true false = refl
+
+-- a call is expanded where a result comes
+module _ (dialect : Dialect) (world : World Numbered) (scope : List ℕ → Option Numbered) (d : Numbered) where
+  abbrev fits_at : ℕ → Forest → Bool
+  fits_at depth argument = is_expanded dialect world unnumbered scope (deeper_at dialect world scope depth) (Some d) argument
+
+  comes_expanded : (depth : ℕ) (argument g : Forest) → answer world d depth argument ≡ Ok g → fits_at depth argument ≡ true
+  comes_expanded depth argument g e = go depth (world.broken d) (world.fit d argument) refl refl e
+    where
+      go : (n : ℕ) (broken : Bool) (given : Option Forest) → world.broken d ≡ broken → world.fit d argument ≡ given
+          → (if broken then Err BrokenDefinition else answer_at n given) ≡ Ok g → fits_at n argument ≡ true
+      go n true given b f e = absurd (cc e)
+      go zero false given b f e = absurd (cc e)
+      go (suc n) false None b f e = absurd (cc e)
+      go (suc n) false (Some h) b f e = ap (λ x. not x && is_some (world.fit d argument)) b ∙ ap is_some f
+
+  stays_unexpanded : (depth : ℕ) (argument : Forest) (kind : FaultKind) → answer world d depth argument ≡ Err kind → fits_at depth argument ≡ false
+  stays_unexpanded depth argument kind e = go depth (world.broken d) (world.fit d argument) refl refl e
+    where
+      go : (n : ℕ) (broken : Bool) (given : Option Forest) → world.broken d ≡ broken → world.fit d argument ≡ given
+          → (if broken then Err BrokenDefinition else answer_at n given) ≡ Err kind → fits_at n argument ≡ false
+      go zero broken given b f e = refl
+      go (suc n) true given b f e = ap (λ x. not x && is_some (world.fit d argument)) b
+      go (suc n) false None b f e = ap (λ x. not x && is_some (world.fit d argument)) b ∙ ap is_some f
+      go (suc n) false (Some h) b f e = absurd (cc e)
+
 -- a level is left where a result comes
 pub deep : (d : Numbered) (world : World Numbered) (depth : ℕ) (argument g : Forest) → answer world d depth argument ≡ Ok g → 0 < depth
 deep d world depth argument g e =
-    (comes_is TopLevel world (λ name. None) TopLevel d (record { standing = Argument; outer = None; locals = [] })
+    (comes_is top_level world (λ name. None) d (record { standing = Argument; outer = None; locals = [] })
     (record { at = d.definition.name.span; whole = argument; argument = argument }) depth g e).0
 
 -- what a list around it answers is no look-up
@@ -169,21 +201,21 @@ no_lookup scope locals f c d is = go (local_at locals f c) is
 
 -- ---- what a call finds
 
-module _ (rules : ScopeRules) (world : World Numbered) (scope : List ℕ → Option Numbered) (depth : ℕ) where
-  module _ (r : ScopeRules) (around : Around) (site : CallSite) (kept : Scoped Numbered) where
+module _ (dialect : Dialect) (world : World Numbered) (scope : List ℕ → Option Numbered) (depth : ℕ) where
+  module _ (around : Around) (site : CallSite) (kept : Scoped Numbered) where
     abbrev looked : Option Numbered → Scoped Numbered
-    looked o = looked_up r world unnumbered scope o (deeper_at rules world scope depth) around site kept
+    looked o = looked_up dialect world unnumbered scope o (deeper_at dialect world scope depth) around site kept
 
     abbrev noted : List (List ℕ × Option Numbered) → Scoped Numbered → Scoped Numbered
     noted xs a = record a { outcome = followed_by (looks xs) a.outcome }
 
-    by_local : (o : Option Definition) (key : List ℕ) → at_key r world unnumbered scope o key (deeper_at rules world scope depth) around site kept
+    by_local : (o : Option Definition) (key : List ℕ) → at_key dialect world unnumbered scope o key (deeper_at dialect world scope depth) around site kept
         ≡ noted (if is_some o then [] else (key, scope key) ∷ []) (looked (or_else (option_map unnumbered o) (scope key)))
     by_local None key = refl
     by_local (Some d) key = refl
 
     by_path : (path : Path) (name : Ident) → is_open path ≡ true → (let o : Option Definition = if names_alone path then nearest around.locals name.sym else None in
-        at_call r world unnumbered scope (deeper_at rules world scope depth) around path name site kept
+        at_call dialect world unnumbered scope (deeper_at dialect world scope depth) around path name site kept
         ≡ noted (if is_some o then [] else (key_of path name, scope (key_of path name)) ∷ []) (looked (or_else (option_map unnumbered o) (scope (key_of path name)))))
     by_path bare name e = by_local (nearest around.locals name.sym) name.sym
     by_path (from_crate root p q) name e = by_local None (key_of (from_crate root p q) name)
@@ -193,163 +225,215 @@ module _ (rules : ScopeRules) (world : World Numbered) (scope : List ℕ → Opt
   abbrev pub site_of : (f : Forest) (c : Call) (b : Bool) → IsCall f c b → CallSite
   site_of f c b k = record { at = c.name.span; whole = whole_call k.path c.name k.bang k.brackets c.argument; argument = c.argument }
 
-  abbrev pub kept_of : (r : ScopeRules) (around : Around) (f : Forest) (c : Call) (b : Bool) → IsCall f c b → Scoped Numbered
-  kept_of r around f c b k = kept_call r world unnumbered scope (searched rules world scope depth) around k.path c.name k.bang k.brackets c.argument
+  abbrev pub kept_of : (around : Around) (f : Forest) (c : Call) (b : Bool) → IsCall f c b → Scoped Numbered
+  kept_of around f c b k = kept_call dialect world unnumbered scope (searched dialect world scope depth) around k.path c.name k.bang k.brackets c.argument
 
   -- what comes of a call is what its name finds, behind its look-up
-  resolved_call : (r : ScopeRules) (around : Around) (f : Forest) (c : Call) (k : IsCall f c true)
-      → called_in rules world scope depth r around k.path c.name k.bang k.brackets c.argument
-      ≡ noted r around (site_of f c true k) (kept_of r around f c true k) (lookups_of scope around.locals f c)
-      (looked r around (site_of f c true k) (kept_of r around f c true k) (resolved scope around.locals f c))
-  resolved_call r around f c k =
+  resolved_call : (around : Around) (f : Forest) (c : Call) (k : IsCall f c true)
+      → called_in dialect world scope depth around k.path c.name k.bang k.brackets c.argument
+      ≡ noted around (site_of f c true k) (kept_of around f c true k) (lookups_of scope around.locals f c)
+      (looked around (site_of f c true k) (kept_of around f c true k) (resolved scope around.locals f c))
+  resolved_call around f c k =
       let site : CallSite = site_of f c true k in
-      let kept : Scoped Numbered = kept_of r around f c true k in
+      let kept : Scoped Numbered = kept_of around f c true k in
       let at : Bool → List ℕ → Scoped Numbered = λ b key. (
       let o : Option Definition = if b then nearest around.locals c.name.sym else None in
-      noted r around site kept (if is_some o then [] else (key, scope key) ∷ []) (looked r around site kept (or_else (option_map unnumbered o) (scope key)))) in
-      by_path r around site kept k.path c.name k.is_so
+      noted around site kept (if is_some o then [] else (key, scope key) ∷ []) (looked around site kept (or_else (option_map unnumbered o) (scope key)))) in
+      by_path around site kept k.path c.name k.is_so
       ∙ ap (λ b. at b (key_of k.path c.name)) (sym k.alone)
       ∙ ap (at (is_bare f)) (k.key refl)
 
-  behind_is : (f : Forest) (c : Call) (b : Bool) (k : IsCall f c b) → begun_behind c.from_group ≡ after_group Other k.brackets.kind
-  behind_is f c b k = ap begun_behind k.group_is
+  behind_is : (gone : Bool) (s : Begun) (f : Forest) (c : Call) (b : Bool) (k : IsCall f c b) → begun_behind gone s c.from_group ≡ after_call gone s k.brackets.kind
+  behind_is gone s f c b k = ap (begun_behind gone s) k.group_is
 
-  module _ (outer : Option Span) (p : Place) (plain : IsPlain rules world scope depth rules p.begun p.here) where
+  module _ (outer : Option Span) (p : Place) (plain : IsPlain dialect world scope depth p.begun p.here) where
     abbrev around : Around
-    around = here_in rules world scope depth outer p.standing p.locals
+    around = here_in dialect world scope depth outer p.standing p.locals
 
     abbrev next : List Definition → Left
-    next = groups_left rules world scope depth outer p.groups
+    next = groups_left dialect world scope depth outer p.groups
 
-    -- the place behind a call, once it has defined these
-    abbrev pub behind_call : Call → List Definition → Place
-    behind_call c ds = record p { here = c.rest; begun = begun_behind c.from_group; locals = ds ++ p.locals }
+    -- the place behind a call, once it has defined these; `gone` tells that a `;` right behind goes with it
+    abbrev pub behind_call : Bool → Call → List Definition → Place
+    behind_call gone c ds = record p { here = c.rest; begun = begun_behind gone p.begun c.from_group; locals = ds ++ p.locals }
+
+    -- whether it does
+    abbrev takes : (c : Call) (b : Bool) → IsCall p.here c b → Bool
+    takes c b k = takes_in dialect world scope depth p.begun around k.path c.name k.brackets c.argument
 
     -- what is left at a call: what comes of it, and what is left behind it
-    call_left : (c : Call) (b : Bool) (k : IsCall p.here c b)
-        → (let a : Scoped Numbered = called_in rules world scope depth rules around k.path c.name k.bang k.brackets c.argument in
-        all_left rules world scope depth outer p ≡ then_left a.outcome (all_left rules world scope depth outer (behind_call c a.defines)))
-    call_left c b k =
-        let a : Scoped Numbered = called_in rules world scope depth rules around k.path c.name k.bang k.brackets c.argument in
+    call_left : (c : Call) (b : Bool) (k : IsCall p.here c b) (gone : Bool) → takes c b k ≡ gone
+        → (let a : Scoped Numbered = called_in dialect world scope depth around k.path c.name k.bang k.brackets c.argument in
+        all_left dialect world scope depth outer p ≡ then_left a.outcome (all_left dialect world scope depth outer (behind_call gone c a.defines)))
+    call_left c b k gone e =
+        let a : Scoped Numbered = called_in dialect world scope depth around k.path c.name k.bang k.brackets c.argument in
         let is = joined_call p.here c b k in
-        passed_in rules world scope depth outer p.begun (after_group Other k.brackets.kind) p.standing p.locals p.here c.rest a next
-        (ap (list_left rules world scope depth rules p.begun around) is
-        ∙ left_call rules world scope depth rules p.begun around k.path c.name k.bang k.brackets c.argument c.rest k.of_call
+        passed_in dialect world scope depth outer p.begun (after_call (takes c b k) p.begun k.brackets.kind) p.standing p.locals p.here c.rest a next
+        (ap (list_left dialect world scope depth p.begun around) is
+        ∙ left_call dialect world scope depth p.begun around k.path c.name k.bang k.brackets c.argument c.rest k.of_call
         (λ u v. subst (λ f. IsAhead f None) is (plain u v)))
-        ∙ ap (λ t. then_left a.outcome (in_list rules world scope depth outer t p.standing (a.defines ++ p.locals) c.rest next)) (sym (behind_is p.here c b k))
+        ∙ ap (λ t. then_left a.outcome (in_list dialect world scope depth outer t p.standing (a.defines ++ p.locals) c.rest next))
+        (ap (λ x. after_call x p.begun k.brackets.kind) e ∙ sym (behind_is gone p.begun p.here c b k))
 
     visible : {c : Call} {b : Bool} → (k : IsCall p.here c b) → is_visible k.brackets.kind ≡ true
     visible k = visible_call k.path k.bang k.brackets k.of_call
 
     -- a call that stays is kept up to its group, which is searched as an argument
     kept_is : (c : Call) (b : Bool) (k : IsCall p.here c b) (xs : List (List ℕ × Option Numbered))
-        → (let a : Scoped Numbered = kept_of rules around p.here c b k in
-        then_left (followed_by (looks xs) a.outcome) (all_left rules world scope depth outer (behind_call c []))
-        ≡ then_left (looks xs) (kept_left rules world scope depth outer (before_group k.path c.name k.bang) c.from_group p))
+        → (let a : Scoped Numbered = kept_of around p.here c b k in
+        then_left (followed_by (looks xs) a.outcome) (all_left dialect world scope depth outer (behind_call false c []))
+        ≡ then_left (looks xs) (kept_left dialect world scope depth outer (before_group k.path c.name k.bang) c.from_group p))
     kept_is c b k xs =
         let before : Outcome Numbered = just outer (walk (before_group k.path c.name k.bang)) in
-        let a : Scoped Numbered = searched rules world scope depth (record around { standing = Argument }) c.argument in
+        let a : Scoped Numbered = searched dialect world scope depth (record around { standing = Argument }) c.argument in
         let g : Scoped Numbered = in_brackets outer k.brackets a in
-        let later : List Definition → Left = λ ls. in_list rules world scope depth outer (after_group Other k.brackets.kind) p.standing ls c.rest next in
-        ap (λ t. then_left (followed_by (looks xs) (followed_by before g.outcome)) (in_list rules world scope depth outer t p.standing p.locals c.rest next)) (behind_is p.here c b k)
+        let later : List Definition → Left = λ ls. in_list dialect world scope depth outer (after_call false p.begun k.brackets.kind) p.standing ls c.rest next in
+        ap (λ t. then_left (followed_by (looks xs) (followed_by before g.outcome)) (in_list dialect world scope depth outer t p.standing p.locals c.rest next)) (behind_is false p.begun p.here c b k)
         ∙ ap (λ v. then_left (followed_by (looks xs) (followed_by before g.outcome)) (later ((if v then [] else a.defines) ++ p.locals))) (sym (visible k))
         ∙ then_assoc (looks xs) (followed_by before g.outcome) (later (g.defines ++ p.locals))
         ∙ ap (then_left (looks xs)) (then_assoc before g.outcome (later (g.defines ++ p.locals)))
-        ∙ ap (λ f. then_left (looks xs) (kept_left rules world scope depth outer (before_group k.path c.name k.bang) f p)) (sym k.group_is)
+        ∙ ap (λ f. then_left (looks xs) (kept_left dialect world scope depth outer (before_group k.path c.name k.bang) f p)) (sym k.group_is)
+
+    -- what the name of a call finds
+    finds_by : (path : Path) (name : Ident) → is_open path ≡ true → (let o : Option Definition = if names_alone path then nearest p.locals name.sym else None in
+        found_at dialect world unnumbered scope around path name ≡ or_else (option_map unnumbered o) (scope (key_of path name)))
+    finds_by bare name e = refl
+    finds_by (from_crate root q r) name e = refl
+    finds_by (other q r) name e = absurd (cc e)
+
+    found_is : (c : Call) (k : IsCall p.here c true) → found_at dialect world unnumbered scope around k.path c.name ≡ resolved scope p.locals p.here c
+    found_is c k =
+        let at : Bool → List ℕ → Option Numbered = λ b key. or_else (option_map unnumbered (if b then nearest p.locals c.name.sym else None)) (scope key) in
+        finds_by k.path c.name k.is_so ∙ ap (λ b. at b (key_of k.path c.name)) (sym k.alone) ∙ ap (at (is_bare p.here)) (k.key refl)
+
+    -- it stands alone in a list of items
+    abbrev pub stands_alone : (c : Call) (b : Bool) → IsCall p.here c b → Bool
+    stands_alone c b k = is_alone_in dialect p.begun p.standing k.brackets
+
+    -- a call that is not expanded takes nothing
+    takes_none : (c : Call) (b : Bool) (k : IsCall p.here c b) (o : Option Numbered) → found_at dialect world unnumbered scope around k.path c.name ≡ o
+        → is_expanded dialect world unnumbered scope (deeper_at dialect world scope depth) o c.argument ≡ false → takes c b k ≡ false
+    takes_none c b k o finds not_so =
+        ap (λ x. stands_alone c b k && is_expanded dialect world unnumbered scope (deeper_at dialect world scope depth) x c.argument) finds
+        ∙ ap (λ x. stands_alone c b k && x) not_so ∙ and_false (stands_alone c b k)
+
+    takes_some : (c : Call) (k : IsCall p.here c true) (d : Numbered) → resolved scope p.locals p.here c ≡ Some d → (g : Forest) → answer world d depth c.argument ≡ Ok g
+        → takes c true k ≡ stands_alone c true k
+    takes_some c k d finds g says =
+        ap (λ x. stands_alone c true k && is_expanded dialect world unnumbered scope (deeper_at dialect world scope depth) x c.argument) (found_is c k ∙ finds)
+        ∙ ap (λ x. stands_alone c true k && x) (comes_expanded dialect world scope d depth c.argument g says) ∙ and_true (stands_alone c true k)
+
+    nothing_expanded : (o : Option (Search Numbered)) (argument : Forest) → is_expanded dialect world unnumbered scope o None argument ≡ false
+    nothing_expanded None argument = refl
+    nothing_expanded (Some search) argument = refl
 
     -- it finds nothing
     pub unknown_left : (c : Call) (k : IsCall p.here c true) → resolved scope p.locals p.here c ≡ None
-        → all_left rules world scope depth outer p
-        ≡ then_left (looks (lookups_of scope p.locals p.here c)) (kept_left rules world scope depth outer (before_group k.path c.name k.bang) c.from_group p)
+        → all_left dialect world scope depth outer p
+        ≡ then_left (looks (lookups_of scope p.locals p.here c)) (kept_left dialect world scope depth outer (before_group k.path c.name k.bang) c.from_group p)
     unknown_left c k none =
-        let kept : Scoped Numbered = kept_of rules around p.here c true k in
+        let kept : Scoped Numbered = kept_of around p.here c true k in
         let xs : List (List ℕ × Option Numbered) = lookups_of scope p.locals p.here c in
-        call_left c true k
-        ∙ ap (λ (x : Scoped Numbered). then_left x.outcome (all_left rules world scope depth outer (behind_call c x.defines)))
-        (resolved_call rules around p.here c k ∙ ap (λ o. noted rules around (site_of p.here c true k) kept xs (looked rules around (site_of p.here c true k) kept o)) none)
+        call_left c true k false (takes_none c true k None (found_is c k ∙ none) (nothing_expanded (deeper_at dialect world scope depth) c.argument))
+        ∙ ap (λ (x : Scoped Numbered). then_left x.outcome (all_left dialect world scope depth outer (behind_call false c x.defines)))
+        (resolved_call around p.here c k ∙ ap (λ o. noted around (site_of p.here c true k) kept xs (looked around (site_of p.here c true k) kept o)) none)
         ∙ kept_is c true k xs
 
     -- or it is none, for the `::` before it
     pub colons_left : (c : Call) (k : IsCall p.here c false)
-        → all_left rules world scope depth outer p ≡ kept_left rules world scope depth outer (before_group k.path c.name k.bang) c.from_group p
+        → all_left dialect world scope depth outer p ≡ kept_left dialect world scope depth outer (before_group k.path c.name k.bang) c.from_group p
     colons_left c k =
-        call_left c false k
-        ∙ ap (λ (x : Scoped Numbered). then_left x.outcome (all_left rules world scope depth outer (behind_call c x.defines))) (not_open k.path c.name (site_of p.here c false k) k.is_so)
+        call_left c false k false (takes_none c false k None (finds_none k.path c.name k.is_so) (nothing_expanded (deeper_at dialect world scope depth) c.argument))
+        ∙ ap (λ (x : Scoped Numbered). then_left x.outcome (all_left dialect world scope depth outer (behind_call false c x.defines))) (not_open k.path c.name (site_of p.here c false k) k.is_so)
         ∙ kept_is c false k []
       where
         kept : Scoped Numbered
-        kept = kept_of rules around p.here c false k
+        kept = kept_of around p.here c false k
+
+        finds_none : (path : Path) (name : Ident) → is_open path ≡ false → found_at dialect world unnumbered scope around path name ≡ None
+        finds_none bare name e = absurd (cc e)
+        finds_none (from_crate root q r) name e = absurd (cc e)
+        finds_none (other q r) name e = refl
 
         not_open : (path : Path) (name : Ident) (site : CallSite) → is_open path ≡ false
-            → at_call rules world unnumbered scope (deeper_at rules world scope depth) around path name site kept ≡ kept
+            → at_call dialect world unnumbered scope (deeper_at dialect world scope depth) around path name site kept ≡ kept
         not_open bare name site e = absurd (cc e)
         not_open (from_crate root p q) name site e = absurd (cc e)
         not_open (other p q) name site e = refl
 
     -- it finds a definition
-    known_left : (c : Call) (k : IsCall p.here c true) (d : Numbered) → resolved scope p.locals p.here c ≡ Some d → (a : Scoped Numbered)
-        → unbroken rules world unnumbered scope d (world.broken d) (deeper_at rules world scope depth) around (site_of p.here c true k) ≡ a
-        → all_left rules world scope depth outer p
-        ≡ then_left (followed_by (looks (lookups_of scope p.locals p.here c)) a.outcome) (all_left rules world scope depth outer (behind_call c a.defines))
-    known_left c k d finds a is =
-        let kept : Scoped Numbered = kept_of rules around p.here c true k in
+    known_left : (c : Call) (k : IsCall p.here c true) (d : Numbered) → resolved scope p.locals p.here c ≡ Some d → (gone : Bool) → takes c true k ≡ gone → (a : Scoped Numbered)
+        → unbroken dialect world unnumbered scope d (world.broken d) (deeper_at dialect world scope depth) around (site_of p.here c true k) ≡ a
+        → all_left dialect world scope depth outer p
+        ≡ then_left (followed_by (looks (lookups_of scope p.locals p.here c)) a.outcome) (all_left dialect world scope depth outer (behind_call gone c a.defines))
+    known_left c k d finds gone e a is =
+        let kept : Scoped Numbered = kept_of around p.here c true k in
         let xs : List (List ℕ × Option Numbered) = lookups_of scope p.locals p.here c in
-        call_left c true k
-        ∙ ap (λ (x : Scoped Numbered). then_left x.outcome (all_left rules world scope depth outer (behind_call c x.defines)))
-        (resolved_call rules around p.here c k ∙ ap (λ o. noted rules around (site_of p.here c true k) kept xs (looked rules around (site_of p.here c true k) kept o)) finds
-        ∙ ap (noted rules around (site_of p.here c true k) kept xs) is)
+        call_left c true k gone e
+        ∙ ap (λ (x : Scoped Numbered). then_left x.outcome (all_left dialect world scope depth outer (behind_call gone c x.defines)))
+        (resolved_call around p.here c k ∙ ap (λ o. noted around (site_of p.here c true k) kept xs (looked around (site_of p.here c true k) kept o)) finds
+        ∙ ap (noted around (site_of p.here c true k) kept xs) is)
 
     -- and stays for a fault
     pub stays_left : (c : Call) (k : IsCall p.here c true) (d : Numbered) → resolved scope p.locals p.here c ≡ Some d → (kind : FaultKind) → answer world d depth c.argument ≡ Err kind
-        → (b : Bool) × (all_left rules world scope depth outer p
-        ≡ then_left (followed_by (looks (lookups_of scope p.locals p.here c)) (bursting b (stays kind outer (site_of p.here c true k)))) (all_left rules world scope depth outer (behind_call c [])))
+        → (b : Bool) × (all_left dialect world scope depth outer p
+        ≡ then_left (followed_by (looks (lookups_of scope p.locals p.here c)) (bursting b (stays kind outer (site_of p.here c true k)))) (all_left dialect world scope depth outer (behind_call false c [])))
     stays_left c k d finds kind says =
-        let is = stays_is rules world scope rules d around (site_of p.here c true k) depth kind says in
-        (is.0, known_left c k d finds (only (bursting is.0 (stays kind outer (site_of p.here c true k)))) is.1)
+        let is = stays_is dialect world scope d around (site_of p.here c true k) depth kind says in (
+          is.0,
+          known_left c k d finds false (takes_none c true k (Some d) (found_is c k ∙ finds) (stays_unexpanded dialect world scope d depth c.argument kind says))
+              (only (bursting is.0 (stays kind outer (site_of p.here c true k)))) is.1,
+        )
 
     -- or its result comes in its place
     pub comes_left : (c : Call) (k : IsCall p.here c true) (d : Numbered) → resolved scope p.locals p.here c ≡ Some d → (g : Forest) → answer world d depth c.argument ≡ Ok g
-        → (let a : Scoped Numbered = deeper rules world scope rules d around (site_of p.here c true k) depth g in
-        all_left rules world scope depth outer p
-        ≡ then_left (followed_by (looks (lookups_of scope p.locals p.here c)) (bursting (world.bursts d c.argument) a.outcome)) (all_left rules world scope depth outer (behind_call c a.defines)))
+        → (let a : Scoped Numbered = deeper dialect world scope d around (site_of p.here c true k) depth g in
+        all_left dialect world scope depth outer p
+        ≡ then_left (followed_by (looks (lookups_of scope p.locals p.here c)) (bursting (world.bursts d c.argument) a.outcome)) (all_left dialect world scope depth outer (behind_call (stands_alone c true k) c a.defines)))
     comes_left c k d finds g says =
         let site : CallSite = site_of p.here c true k in
-        known_left c k d finds (bursting_too rules world scope rules d around site (world.bursts d c.argument) (deeper rules world scope rules d around site depth g))
-        (comes_is rules world scope rules d around site depth g says).1
+        known_left c k d finds (stands_alone c true k) (takes_some c k d finds g says) (bursting_too dialect world scope d around site (world.bursts d c.argument) (deeper dialect world scope d around site depth g))
+        (comes_is dialect world scope d around site depth g says).1
 
     -- where the call makes too many tokens, the whole does
     pub answer_bursts : (c : Call) (k : IsCall p.here c true) (d : Numbered) → resolved scope p.locals p.here c ≡ Some d → makes_too_many world d depth c.argument ≡ true
-        → (all_left rules world scope depth outer p).0.bursts ≡ true
+        → (all_left dialect world scope depth outer p).0.bursts ≡ true
     answer_bursts c k d finds much =
-        ap (λ (l : Left). l.0.bursts) (known_left c k d finds (unbroken rules world unnumbered scope d (world.broken d) (deeper_at rules world scope depth) around (site_of p.here c true k)) refl)
-        ∙ or_first _ _ (bursts_is rules world scope rules d around (site_of p.here c true k) depth much)
+        ap (λ (l : Left). l.0.bursts) (known_left c k d finds (takes c true k) refl (unbroken dialect world unnumbered scope d (world.broken d) (deeper_at dialect world scope depth) around (site_of p.here c true k)) refl)
+        ∙ or_first _ _ (bursts_is dialect world scope d around (site_of p.here c true k) depth much)
 
     pub result_bursts : (c : Call) (k : IsCall p.here c true) (d : Numbered) → resolved scope p.locals p.here c ≡ Some d → (g : Forest) → answer world d depth c.argument ≡ Ok g
-        → (deeper rules world scope rules d around (site_of p.here c true k) depth g).outcome.bursts ≡ true
-        → (all_left rules world scope depth outer p).0.bursts ≡ true
+        → (deeper dialect world scope d around (site_of p.here c true k) depth g).outcome.bursts ≡ true
+        → (all_left dialect world scope depth outer p).0.bursts ≡ true
     result_bursts c k d finds g says much =
         ap (λ (l : Left). l.0.bursts) (comes_left c k d finds g says) ∙ or_first _ _ (or_later (world.bursts d c.argument) _ much)
 
--- ---- a whole tree, where lists have no definitions
+-- ---- a whole tree
 
 module _ (world : World Numbered) (scope : List ℕ → Option Numbered) (depth : ℕ) (tree : Forest) where
-  pub top_searched : searched TopLevel world scope depth (without_locals Top None) tree ≡ only (expansion world scope depth None tree)
-  top_searched = sym (scoped_is TopLevel world scope depth depth (without_locals Top None) tree) ∙ top_level world unnumbered scope depth Top None tree
+  abbrev whole : Outcome Numbered
+  whole = expanded world unnumbered scope depth tree
+
+  abbrev found_whole : Outcome Numbered
+  found_whole = (searched world.dialect world scope depth (without_locals Top None) tree).outcome
+
+  whole_searched : whole ≡ found_whole
+  whole_searched = ap (λ (a : Scoped Numbered). a.outcome) (scoped_is world.dialect world scope depth depth (without_locals Top None) tree)
 
   -- all was added to what had no faults and no look-ups
   pub piece_expands : {S : Type 0} (Has : S → List PlacedStep → Type 0) (old new : Expanding S) → old.faults.items ≡ [] → old.finds.items ≡ []
-      → Adds Has old new (searched TopLevel world scope depth (without_locals Top None) tree).outcome → Expands Has old.output new (expansion world scope depth None tree)
+      → Adds Has old new found_whole → Expands Has old.output new whole
   piece_expands Has old new no_faults no_finds adds =
-      let is : Adds Has old new (expansion world scope depth None tree) = subst (λ (a : Scoped Numbered). Adds Has old new a.outcome) top_searched adds in record {
+      let is : Adds Has old new whole = subst (Adds Has old new) (sym whole_searched) adds in record {
         steps = is.steps;
-        faults = is.faults ∙ ap (λ l. l ++ (expansion world scope depth None tree).faults) no_faults;
-        finds = is.finds ∙ ap (λ l. map find_of l ++ (expansion world scope depth None tree).finds) no_finds;
+        faults = is.faults ∙ ap (λ l. l ++ whole.faults) no_faults;
+        finds = is.finds ∙ ap (λ l. map find_of l ++ whole.finds) no_finds;
       }
 
-  pub piece_bursts : (searched TopLevel world scope depth (without_locals Top None) tree).outcome.bursts ≡ true → (expansion world scope depth None tree).bursts ≡ true
-  piece_bursts much = ap (λ (a : Scoped Numbered). a.outcome.bursts) (sym top_searched) ∙ much
+  pub piece_bursts : found_whole.bursts ≡ true → whole.bursts ≡ true
+  piece_bursts much = ap (λ (o : Outcome Numbered). o.bursts) whole_searched ∙ much
 
   -- a tree without calls stays as it is
-  pub quiet_parts : scoped TopLevel world unnumbered scope depth (without_locals Top None) tree ≡ only (just None (walk tree))
-      → record { steps = placed None (walk tree); faults = []; finds = [] } ≡ parts_of (expansion world scope depth None tree)
-  quiet_parts e = ap (λ (a : Scoped Numbered). parts_of a.outcome) (sym e ∙ top_level world unnumbered scope depth Top None tree)
+  pub quiet_parts : scoped world.dialect world unnumbered scope depth (without_locals Top None) tree ≡ only (just None (walk tree))
+      → record { steps = placed None (walk tree); faults = []; finds = [] } ≡ parts_of whole
+  quiet_parts e = ap (λ (a : Scoped Numbered). parts_of a.outcome) (sym e)

@@ -15,8 +15,9 @@ use Rattle.expander_model.specs.CallSteps.{bare_call, call_at, call_behind_colon
 use Rattle.expander_model.specs.Definitions.{Definition, definition_of}
 use Rattle.expander_model.specs.Expansion.{World, Outcome, CallSite, PlacedStep, before_group, bursting, just, followed_by, stays}
 use Rattle.expander_model.specs.Held.{Numbered, unnumbered}
-use Rattle.expander_model.specs.PieceStates.{after_leaf, after_group}
-use Rattle.expander_model.specs.Scoping.{Around as Surroundings, Scoped, and_next, defined, in_brackets, in_group, only}
+use Rattle.expander_model.specs.PieceStates.{after_leaf, after_group, after_name, is_dropped}
+use Rattle.expander_model.specs.Scoping.{Around as Surroundings, Scoped, and_next, defined, definition_in, in_brackets, in_group, only}
+use Rattle.expander_model.specs.declared.dialect.Dialect.{Dialect}
 use Rattle.expander_model.specs.WalkSteps.{Enters, GoesOn, groups_of}
 use Rattle.expander_model.specs.declared.tree_walk.TreeWalk.{TreeWalk}
 use Rattle.bridge.specs.TokenEvents.{step_of}
@@ -27,34 +28,29 @@ use Rattle.expander_model.specs.declared.begun.Begun.{Begun}
 use Rattle.expander_model.specs.declared.call.Call.{Call}
 use Rattle.expander_model.specs.declared.fault.FaultKind.{FaultKind}
 use Rattle.expander_scope.specs.Outcomes.{find_of}
-use Rattle.expander_model.specs.declared.begun.Begun.TheVariants.{Nothing, Other}
+use Rattle.expander_model.specs.declared.begun.Begun.TheVariants.{Nothing}
 use Rattle.expander_model.specs.declared.scope_rules.ScopeRules.{ScopeRules}
 use Rattle.expander_model.specs.declared.scope_rules.ScopeRules.TheVariants.{TopLevel, Rust}
 use Rattle.expander_model.specs.declared.scope_rules.Standing.{Standing}
-use Rattle.expander_model.specs.declared.scope_rules.Standing.TheVariants.{Top, Enclosed, Argument}
+use Rattle.expander_model.specs.declared.scope_rules.Standing.TheVariants.{Argument}
 use Rattle.expander_model.specs.declared.tree_walk.Around.{Around}
 use Rattle.expander_scope.specs.Expanding.{Adds, answer, deeper_at, makes_too_many, searched}
-use Rattle.expander_scope.specs.ListsLeft.{IsAhead, Left, Open, Place, all_left, groups_left, in_list, let_out, list_left, standing_in, then_left}
+use Rattle.expander_scope.specs.ListsLeft.{IsAhead, Left, Open, Place, all_left, groups_left, in_list, let_out, list_left, then_left}
 use Rattle.expander_scope.specs.Leaving.{Leaves}
 use Rattle.expander_scope.specs.LocalTables.{AreReadIn, locals_of}
-use Rattle.expander_scope.specs.Turns.{AreNested, BeginsWithGroup, Goes, IsAt, IsNoCall, IsPassable, IsPlainAhead, begun_behind, lookups_of, resolved, around_of, level_of, left_ahead, argument_left, kept_left, steps_in, turns_left}
+use Rattle.expander_scope.specs.Turns.{AreNested, BeginsWithGroup, Goes, IsAt, IsNoCall, IsPassable, IsPlainAhead, begun_behind, is_alone_at, lookups_of, resolved, around_of, level_of, left_ahead, argument_left, kept_left, steps_in, turns_left}
 use Rattle.expander_scope.specs.declared.expand.Search.{Search}
 use Rattle.expander_scope.specs.declared.list_walk.Level.{Level}
 use Rattle.expander_scope.specs.declared.list_walk.ListWalk.{ListWalk}
 use Rattle.expander_scope.specs.declared.locals.Locals.{Locals}
 use Rattle.expander_scope.proofs.CallLemmas.{no_call}
-use Rattle.expander_scope.proofs.CallResultLemmas.{colons_left, adds_just, adds_looks, adds_more, adds_stays, answer_bursts, behind_call, comes_left, deeper, looks, result_bursts, site_of, stays_left, unknown_left}
+use Rattle.expander_scope.proofs.CallResultLemmas.{colons_left, adds_just, adds_looks, adds_more, adds_stays, answer_bursts, behind_call, comes_left, deeper, looks, result_bursts, site_of, stands_alone, stays_left, unknown_left}
 use Rattle.expander_scope.proofs.ListLemmas.{entered_in, here_in, left_at_beginning, left_at_end, left_group, left_leaf, opened, passed_in, then_assoc}
 use Rattle.expander_scope.proofs.OutcomeLemmas.{or_later}
 use Rattle.expander_scope.proofs.SinkLemmas.{takes_none}
 use Rattle.expander_scope.proofs.TurnLemmas.{IsCall, call_is_call, colons_is_call, neither, rest_smaller}
 use Rattle.textual_scope.proofs.LeftLemmas.{at_definition}
 use Rattle.textual_scope.proofs.ResultLemmas.{followed_by_nothing}
-
-in_group_is : (d : Delimiter) (s : Standing) → in_group d s ≡ standing_in d.kind s
-in_group_is d Top = refl
-in_group_is d Enclosed = refl
-in_group_is d Argument = refl
 
 pub entered : (b : Bool) → (b ≡ false → ⊥) → b ≡ true
 entered true never = refl
@@ -80,22 +76,26 @@ nested_out k locals g gs h = go (is_visible k)
     go true = h.1
     go false = subst (λ ls. AreNested ls gs) (sym h.0.1) (nested_more h.0.0 g.locals gs h.1)
 
-module _ (rules : ScopeRules) (world : World Numbered) (scope : List ℕ → Option Numbered) (depth : ℕ) (outer : Option Span) where
+module _ (dialect : Dialect) (world : World Numbered) (scope : List ℕ → Option Numbered) (depth : ℕ) (outer : Option Span) where
   abbrev whole_left : Place → Left
-  whole_left p = all_left rules world scope depth outer p
+  whole_left p = all_left dialect world scope depth outer p
 
   -- the place behind a leaf
   abbrev behind_leaf : Place → Leaf → Forest → Place
   behind_leaf p l rest = record p { here = rest; begun = after_leaf p.begun l }
 
-  leaf_left : (p : Place) (l : Leaf) (rest : Forest) → IsPlainAhead rules p → IsNoCall p → p.here ≡ leaf l rest
-      → whole_left p ≡ then_left (just outer (at_leaf l ∷ [])) (whole_left (behind_leaf p l rest))
+  -- what it prints
+  abbrev leaf_of : Place → Leaf → Outcome Numbered
+  leaf_of p l = just outer (if is_dropped p.begun l then [] else at_leaf l ∷ [])
+
+  leaf_left : (p : Place) (l : Leaf) (rest : Forest) → IsPlainAhead dialect p → IsNoCall p → p.here ≡ leaf l rest
+      → whole_left p ≡ then_left (leaf_of p l) (whole_left (behind_leaf p l rest))
   leaf_left p l rest plain none is =
       let both = neither (crate_call (leaf l rest)) (bare_call (leaf l rest)) (ap call_at (sym is) ∙ none.0) in
-      let at : Surroundings = here_in rules world scope depth outer p.standing p.locals in
-      passed_in rules world scope depth outer p.begun (after_leaf p.begun l) p.standing p.locals p.here rest (only (just outer (at_leaf l ∷ []))) (groups_left rules world scope depth outer p.groups)
-      (ap (list_left rules world scope depth rules p.begun at) is
-      ∙ left_leaf rules world scope depth rules p.begun at l rest (λ u v. subst (λ f. IsAhead f None) is (plain u v))
+      let at : Surroundings = here_in dialect world scope depth outer p.standing p.locals in
+      passed_in dialect world scope depth outer p.begun (after_leaf p.begun l) p.standing p.locals p.here rest (only (leaf_of p l)) (groups_left dialect world scope depth outer p.groups)
+      (ap (list_left dialect world scope depth p.begun at) is
+      ∙ left_leaf dialect world scope depth p.begun at l rest (λ u v. subst (λ f. IsAhead f None) is (plain u v))
       (no_call l rest both.0 both.1 (ap call_behind_colons (sym is) ∙ none.1)))
 
   -- the place in a group
@@ -105,25 +105,23 @@ module _ (rules : ScopeRules) (world : World Numbered) (scope : List ℕ → Opt
     begun = Nothing;
     standing = inside;
     locals = p.locals;
-    groups = opened rules world scope depth outer d rest (after_group p.begun d.kind) p.standing p.locals ∷ p.groups;
+    groups = opened dialect world scope depth outer d rest (after_group p.begun d.kind) p.standing p.locals ∷ p.groups;
   }
 
-  group_left : (p : Place) (d : Delimiter) (inner rest : Forest) → IsPlainAhead rules p → p.here ≡ group d inner rest
-      → whole_left p ≡ then_left (just outer (opens d.kind d.open_span ∷ [])) (whole_left (in_it p (standing_in d.kind p.standing) d inner rest))
+  group_left : (p : Place) (d : Delimiter) (inner rest : Forest) → IsPlainAhead dialect p → p.here ≡ group d inner rest
+      → whole_left p ≡ then_left (just outer (opens d.kind d.open_span ∷ [])) (whole_left (in_it p (in_group p.begun d.kind p.standing) d inner rest))
   group_left p d inner rest plain is =
-      let at : Surroundings = here_in rules world scope depth outer p.standing p.locals in
-      let a : Standing → Scoped Numbered = λ s. in_brackets outer d (searched rules world scope depth (here_in rules world scope depth outer s p.locals) inner) in
-      let later : Scoped Numbered → Left = λ x.
-      then_left x.outcome (in_list rules world scope depth outer (after_group p.begun d.kind) p.standing (x.defines ++ p.locals) rest (groups_left rules world scope depth outer p.groups)) in
-      passed_in rules world scope depth outer p.begun (after_group p.begun d.kind) p.standing p.locals p.here rest (a (in_group d p.standing)) (groups_left rules world scope depth outer p.groups)
-      (ap (list_left rules world scope depth rules p.begun at) is
-      ∙ left_group rules world scope depth rules p.begun at d inner rest (λ u v. subst (λ f. IsAhead f None) is (plain u v)))
-      ∙ ap (λ s. later (a s)) (in_group_is d p.standing)
-      ∙ entered_in rules world scope depth outer (after_group p.begun d.kind) p.standing (standing_in d.kind p.standing) p.locals d inner rest p.groups
+      let at : Surroundings = here_in dialect world scope depth outer p.standing p.locals in
+      let inside : Standing = in_group p.begun d.kind p.standing in
+      let a : Scoped Numbered = in_brackets outer d (searched dialect world scope depth (here_in dialect world scope depth outer inside p.locals) inner) in
+      passed_in dialect world scope depth outer p.begun (after_group p.begun d.kind) p.standing p.locals p.here rest a (groups_left dialect world scope depth outer p.groups)
+      (ap (list_left dialect world scope depth p.begun at) is
+      ∙ left_group dialect world scope depth p.begun at d inner rest (λ u v. subst (λ f. IsAhead f None) is (plain u v)))
+      ∙ entered_in dialect world scope depth outer (after_group p.begun d.kind) p.standing inside p.locals d inner rest p.groups
 
   argument_is : (p : Place) (d : Delimiter) (inner rest : Forest)
-      → argument_left rules world scope depth outer p (group d inner rest) ≡ then_left (just outer (opens d.kind d.open_span ∷ [])) (whole_left (in_it p Argument d inner rest))
-  argument_is p d inner rest = entered_in rules world scope depth outer (after_group p.begun d.kind) p.standing Argument p.locals d inner rest p.groups
+      → argument_left dialect world scope depth outer p (group d inner rest) ≡ then_left (just outer (opens d.kind d.open_span ∷ [])) (whole_left (in_it p Argument d inner rest))
+  argument_is p d inner rest = entered_in dialect world scope depth outer (after_group p.begun d.kind) p.standing Argument p.locals d inner rest p.groups
 
   -- the place behind the innermost group
   abbrev out_of_it : Place → Open → List Open → Place
@@ -132,21 +130,21 @@ module _ (rules : ScopeRules) (world : World Numbered) (scope : List ℕ → Opt
   end_left : (p : Place) (g : Open) (gs : List Open) → p.here ≡ empty → p.groups ≡ g ∷ gs
       → whole_left p ≡ then_left (just outer (closes g.kind g.close_span ∷ [])) (whole_left (out_of_it p g gs))
   end_left p g gs at_end groups =
-      ap (λ f. in_list rules world scope depth outer p.begun p.standing p.locals f (groups_left rules world scope depth outer p.groups)) at_end
-      ∙ left_at_end rules world scope depth outer p.begun p.standing p.locals p.groups
-      ∙ ap (λ l. groups_left rules world scope depth outer l p.locals) groups
+      ap (λ f. in_list dialect world scope depth outer p.begun p.standing p.locals f (groups_left dialect world scope depth outer p.groups)) at_end
+      ∙ left_at_end dialect world scope depth outer p.begun p.standing p.locals p.groups
+      ∙ ap (λ l. groups_left dialect world scope depth outer l p.locals) groups
 
   nothing_left : (p : Place) → p.here ≡ empty → p.groups ≡ [] → whole_left p ≡ (just outer [], p.locals)
   nothing_left p at_end groups =
-      ap (λ f. in_list rules world scope depth outer p.begun p.standing p.locals f (groups_left rules world scope depth outer p.groups)) at_end
-      ∙ left_at_end rules world scope depth outer p.begun p.standing p.locals p.groups
-      ∙ ap (λ l. groups_left rules world scope depth outer l p.locals) groups
+      ap (λ f. in_list dialect world scope depth outer p.begun p.standing p.locals f (groups_left dialect world scope depth outer p.groups)) at_end
+      ∙ left_at_end dialect world scope depth outer p.begun p.standing p.locals p.groups
+      ∙ ap (λ l. groups_left dialect world scope depth outer l p.locals) groups
 
   module _ (edition : Edition) {S : Type 0} (Has : S → List PlacedStep → Type 0) (old new : Search S) (before after : ListWalk) (p : Place) (at : IsAt before old.locals p) where
     -- a leaf was passed
-    pub goes_leaf : (l : Leaf) → IsPlainAhead rules p → IsNoCall p → p.here ≡ leaf l after.trees.here → groups_of after.trees ≡ groups_of before.trees
+    pub goes_leaf : (l : Leaf) → IsPlainAhead dialect p → IsNoCall p → p.here ≡ leaf l after.trees.here → groups_of after.trees ≡ groups_of before.trees
         → after.begun ≡ after_leaf before.begun l → after.standing ≡ before.standing → after.levels ≡ before.levels → new.locals ≡ old.locals
-        → Adds Has old.out new.out (just outer (at_leaf l ∷ [])) → Goes rules world scope depth outer edition Has (whole_left p) old new before after
+        → Adds Has old.out new.out (just outer (if is_dropped before.begun l then [] else at_leaf l ∷ [])) → Goes dialect world scope depth outer edition Has (whole_left p) old new before after
     goes_leaf l plain none is groups begun standing levels locals adds = record {
       next = behind_leaf p l after.trees.here;
       at = record {
@@ -158,9 +156,9 @@ module _ (rules : ScopeRules) (world : World Numbered) (scope : List ℕ → Opt
         levels = ap (λ (v : _). reverse v.items) levels ∙ at.levels;
         nested = at.nested;
       };
-      outcome = just outer (at_leaf l ∷ []);
+      outcome = leaf_of p l;
       is = leaf_left p l after.trees.here plain none is;
-      adds = adds;
+      adds = subst (λ s. Adds Has old.out new.out (just outer (if is_dropped s l then [] else at_leaf l ∷ []))) at.begun adds;
       read = subst (AreReadIn edition) (sym locals);
       less = omega (arith, ap size (at.here ∙ is), ap steps_in groups);
     }
@@ -171,7 +169,7 @@ module _ (rules : ScopeRules) (world : World Numbered) (scope : List ℕ → Opt
         → groups_of after.trees ≡ record { kind = d.kind; close_span = d.close_span; behind = rest } ∷ groups_of before.trees
         → after.levels.items ≡ before.levels.items ++ record { begun = after_group before.begun d.kind; standing = before.standing; locals = length (locals_of old.locals) } ∷ []
         → after.begun ≡ Nothing → after.standing ≡ inside → new.locals ≡ old.locals
-        → Adds Has old.out new.out (just outer (opens d.kind d.open_span ∷ [])) → Goes rules world scope depth outer edition Has from old new before after
+        → Adds Has old.out new.out (just outer (opens d.kind d.open_span ∷ [])) → Goes dialect world scope depth outer edition Has from old new before after
     goes_in from inside d rest is from_is groups levels begun standing locals adds = record {
       next = in_it p inside d after.trees.here rest;
       at = record {
@@ -195,7 +193,7 @@ module _ (rules : ScopeRules) (world : World Numbered) (scope : List ℕ → Opt
     pub goes_out : (g : Open) (gs : List Open) → p.here ≡ empty → p.groups ≡ g ∷ gs → after.trees.here ≡ g.behind → groups_of after.trees ≡ map around_of gs
         → reverse after.levels.items ≡ map level_of gs → after.begun ≡ g.begun → after.standing ≡ g.standing
         → locals_of new.locals ≡ let_out g.kind g.locals p.locals → (AreReadIn edition old.locals → AreReadIn edition new.locals)
-        → Adds Has old.out new.out (just outer (closes g.kind g.close_span ∷ [])) → Goes rules world scope depth outer edition Has (whole_left p) old new before after
+        → Adds Has old.out new.out (just outer (closes g.kind g.close_span ∷ [])) → Goes dialect world scope depth outer edition Has (whole_left p) old new before after
     goes_out g gs at_end is here groups levels begun standing locals read adds = record {
       next = out_of_it p g gs;
       at = record {
@@ -215,11 +213,11 @@ module _ (rules : ScopeRules) (world : World Numbered) (scope : List ℕ → Opt
     }
 
     -- a definition was passed
-    pub goes_on_behind : (d : Definition) (piece rest : Forest) → rules ≡ Rust → p.begun ≡ Nothing → IsAhead p.here (Some (piece, rest)) → definition_of piece ≡ Some d
+    pub goes_on_behind : (d : Definition) (piece rest : Forest) → dialect.scope ≡ Rust → p.begun ≡ Nothing → IsAhead p.here (Some (piece, rest)) → definition_of piece ≡ Some d
         → after.trees.here ≡ rest → groups_of after.trees ≡ groups_of before.trees → after.begun ≡ before.begun → after.standing ≡ before.standing
         → after.levels ≡ before.levels → locals_of new.locals ≡ d ∷ locals_of old.locals → (AreReadIn edition old.locals → AreReadIn edition new.locals)
-        → Adds Has old.out new.out (defined rules world unnumbered scope (here_in rules world scope depth outer p.standing p.locals) d).outcome
-        → Goes rules world scope depth outer edition Has (whole_left p) old new before after
+        → Adds Has old.out new.out (defined dialect world unnumbered scope (here_in dialect world scope depth outer p.standing p.locals) d).outcome
+        → Goes dialect world scope depth outer edition Has (whole_left p) old new before after
     goes_on_behind d piece rest rust nothing ahead is here groups begun standing levels locals read adds = record {
       next = record p { here = rest; locals = d ∷ p.locals };
       at = record {
@@ -231,7 +229,7 @@ module _ (rules : ScopeRules) (world : World Numbered) (scope : List ℕ → Opt
         levels = ap (λ (v : _). reverse v.items) levels ∙ at.levels;
         nested = nested_more (d ∷ []) p.locals p.groups at.nested;
       };
-      outcome = (defined rules world unnumbered scope (here_in rules world scope depth outer p.standing p.locals) d).outcome;
+      outcome = (defined dialect world unnumbered scope (here_in dialect world scope depth outer p.standing p.locals) d).outcome;
       is = defined_left;
       adds = adds;
       read = read;
@@ -239,22 +237,24 @@ module _ (rules : ScopeRules) (world : World Numbered) (scope : List ℕ → Opt
     }
       where
         surroundings : Surroundings
-        surroundings = here_in rules world scope depth outer p.standing p.locals
+        surroundings = here_in dialect world scope depth outer p.standing p.locals
 
         a : Scoped Numbered
-        a = defined rules world unnumbered scope surroundings d
+        a = defined dialect world unnumbered scope surroundings d
 
-        -- by either rules, where they are Rust's
-        list_is : (r : ScopeRules) (s : Begun) → r ≡ Rust → s ≡ Nothing
-            → list_left rules world scope depth r s surroundings p.here ≡ and_next (defined r world unnumbered scope surroundings d) (λ here. list_left rules world scope depth r s here rest) surroundings
-        list_is Rust Nothing u v =
-            at_definition world unnumbered scope (searched rules world scope depth) (deeper_at rules world scope depth) surroundings p.here piece rest d ahead.0 is
-        list_is TopLevel s u v = absurd (cc u)
-        list_is Rust s u v = absurd (cc v)
+        found_in : (r : ScopeRules) → r ≡ Rust → definition_in r piece ≡ Some d
+        found_in Rust u = is
+        found_in TopLevel u = absurd (cc u)
+
+        list_is : (s : Begun) → s ≡ Nothing
+            → list_left dialect world scope depth s surroundings p.here ≡ and_next (defined dialect world unnumbered scope surroundings d) (λ here. list_left dialect world scope depth s here rest) surroundings
+        list_is Nothing v =
+            at_definition dialect world unnumbered scope (searched dialect world scope depth) (deeper_at dialect world scope depth) surroundings p.here piece rest d ahead.0 (found_in dialect.scope rust)
+        list_is s v = absurd (cc v)
 
         defined_left : whole_left p ≡ then_left a.outcome (whole_left (record p { here = rest; locals = d ∷ p.locals }))
         defined_left =
-            passed_in rules world scope depth outer p.begun p.begun p.standing p.locals p.here rest a (groups_left rules world scope depth outer p.groups) (list_is rules p.begun rust nothing)
+            passed_in dialect world scope depth outer p.begun p.begun p.standing p.locals p.here rest a (groups_left dialect world scope depth outer p.groups) (list_is p.begun nothing)
 
     -- ---- by the events of a traversal
 
@@ -264,32 +264,33 @@ module _ (rules : ScopeRules) (world : World Numbered) (scope : List ℕ → Opt
     not_at_end : (f : Forest) → BeginsWithGroup f → f ≡ empty → ⊥
     not_at_end f begins is = let both : empty ≡ group begins.0 begins.1 begins.2 = sym is ∙ begins.3 in cc both
 
-    pub passes_leaf : (b : Bool) → IsPassable rules b p → (l : LeafRef) → GoesOn before.trees (Some (as_step.Leaf l)) after.trees
+    pub passes_leaf : (b : Bool) → IsPassable dialect b p → (l : LeafRef) → GoesOn before.trees (Some (as_step.Leaf l)) after.trees
         → after.begun ≡ after_leaf before.begun (leaf_lent l) → after.standing ≡ before.standing → after.levels ≡ before.levels → new.locals ≡ old.locals
-        → Adds Has old.out new.out (just outer (step_of (as_step.Leaf l) ∷ [])) → Goes rules world scope depth outer edition Has (left_ahead rules world scope depth outer b p) old new before after
+        → Adds Has old.out new.out (just outer (if is_dropped before.begun (leaf_lent l) then [] else step_of (as_step.Leaf l) ∷ []))
+        → Goes dialect world scope depth outer edition Has (left_ahead dialect world scope depth outer b p) old new before after
     passes_leaf true begins l e begun standing levels locals adds = absurd (no_group p.here (leaf_lent l) after.trees.here begins (sym at.here ∙ e.0))
     passes_leaf false pass l e begun standing levels locals adds =
         goes_leaf (leaf_lent l) pass.0 pass.1 (sym at.here ∙ e.0) e.1 begun standing levels locals adds
 
-    entered_from : (b : Bool) → IsPassable rules b p → (d : Delimiter) (inner rest : Forest) → p.here ≡ group d inner rest
-        → left_ahead rules world scope depth outer b p ≡ then_left (just outer (opens d.kind d.open_span ∷ [])) (whole_left (in_it p (if b then Argument else standing_in d.kind p.standing) d inner rest))
-    entered_from true begins d inner rest is = ap (argument_left rules world scope depth outer p) is ∙ argument_is p d inner rest
+    entered_from : (b : Bool) → IsPassable dialect b p → (d : Delimiter) (inner rest : Forest) → p.here ≡ group d inner rest
+        → left_ahead dialect world scope depth outer b p ≡ then_left (just outer (opens d.kind d.open_span ∷ [])) (whole_left (in_it p (if b then Argument else in_group p.begun d.kind p.standing) d inner rest))
+    entered_from true begins d inner rest is = ap (argument_left dialect world scope depth outer p) is ∙ argument_is p d inner rest
     entered_from false pass d inner rest is = group_left p d inner rest pass.0 is
 
-    pub passes_in : (b : Bool) → IsPassable rules b p → (kind : DelimiterKind) (span : Span) (mid : TreeWalk) → Enters kind span before.trees mid → after.trees ≡ mid → (n : ℕ) → n ≡ length (locals_of old.locals)
+    pub passes_in : (b : Bool) → IsPassable dialect b p → (kind : DelimiterKind) (span : Span) (mid : TreeWalk) → Enters kind span before.trees mid → after.trees ≡ mid → (n : ℕ) → n ≡ length (locals_of old.locals)
         → after.levels.items ≡ before.levels.items ++ record { begun = after_group before.begun kind; standing = before.standing; locals = n } ∷ []
-        → after.begun ≡ Nothing → after.standing ≡ (if b then Argument else standing_in kind before.standing) → new.locals ≡ old.locals
-        → Adds Has old.out new.out (just outer (opens kind span ∷ [])) → Goes rules world scope depth outer edition Has (left_ahead rules world scope depth outer b p) old new before after
+        → after.begun ≡ Nothing → after.standing ≡ (if b then Argument else in_group before.begun kind before.standing) → new.locals ≡ old.locals
+        → Adds Has old.out new.out (just outer (opens kind span ∷ [])) → Goes dialect world scope depth outer edition Has (left_ahead dialect world scope depth outer b p) old new before after
     passes_in b pass kind span mid e trees n counted levels begun standing locals adds =
         let d : Delimiter = e.brackets in
         let here : after.trees.here ≡ mid.here = ap (λ (t : TreeWalk). t.here) trees in
         let is : p.here ≡ group d after.trees.here e.behind = sym at.here ∙ e.first ∙ ap (λ f. group d f e.behind) (sym here) in
-        goes_in (left_ahead rules world scope depth outer b p) (if b then Argument else standing_in d.kind p.standing) d e.behind is
+        goes_in (left_ahead dialect world scope depth outer b p) (if b then Argument else in_group p.begun d.kind p.standing) d e.behind is
         (entered_from b pass d after.trees.here e.behind is)
         (ap groups_of trees ∙ e.groups ∙ ap (λ k. record { kind = k; close_span = d.close_span; behind = e.behind } ∷ groups_of before.trees) (sym e.kind_is))
         (levels ∙ (λ i. before.levels.items ++ record { begun = after_group before.begun (sym e.kind_is i); standing = before.standing; locals = counted i } ∷ []))
         begun
-        (standing ∙ (λ i. if b then Argument else standing_in (sym e.kind_is i) (at.standing i)))
+        (standing ∙ (λ i. if b then Argument else in_group (at.begun i) (sym e.kind_is i) (at.standing i)))
         locals
         (subst (λ k. Adds Has old.out new.out (just outer (opens k d.open_span ∷ []))) (sym e.kind_is)
         (subst (λ x. Adds Has old.out new.out (just outer (opens kind x ∷ []))) (sym e.span_is) adds))
@@ -300,11 +301,11 @@ module _ (rules : ScopeRules) (world : World Numbered) (scope : List ℕ → Opt
     split_open (g ∷ more) a rest is =
         (g, more, refl, (let one : around_of g ≡ a = cc is in one), (let others : map around_of more ≡ rest = cc is in others))
 
-    pub passes_out : (b : Bool) → IsPassable rules b p → (kind : DelimiterKind) (span : Span) (mid : TreeWalk) → before.trees.here ≡ empty
+    pub passes_out : (b : Bool) → IsPassable dialect b p → (kind : DelimiterKind) (span : Span) (mid : TreeWalk) → before.trees.here ≡ empty
         → groups_of before.trees ≡ record { kind = kind; close_span = span; behind = mid.here } ∷ groups_of mid → after.trees ≡ mid
         → ((level : Level) (rest : List Level) → reverse before.levels.items ≡ level ∷ rest → Leaves kind level rest old.locals after new.locals)
         → (AreReadIn edition old.locals → AreReadIn edition new.locals)
-        → Adds Has old.out new.out (just outer (closes kind span ∷ [])) → Goes rules world scope depth outer edition Has (left_ahead rules world scope depth outer b p) old new before after
+        → Adds Has old.out new.out (just outer (closes kind span ∷ [])) → Goes dialect world scope depth outer edition Has (left_ahead dialect world scope depth outer b p) old new before after
     passes_out true begins kind span mid at_end groups trees leaves read adds = absurd (not_at_end p.here begins (sym at.here ∙ at_end))
     passes_out false pass kind span mid at_end groups trees leaves read adds =
         let (g, gs, is, first, others) = split_open p.groups (record { kind = kind; close_span = span; behind = mid.here }) (groups_of mid) (sym at.groups ∙ groups) in
@@ -331,8 +332,8 @@ module _ (rules : ScopeRules) (world : World Numbered) (scope : List ℕ → Opt
     pub goes_kept : (beginning from_group : Forest) (mid : Search S) (there : ListWalk) → mid.locals ≡ old.locals
         → turns_left there < suc (turns_left before)
         → Adds Has old.out mid.out (just outer (walk beginning))
-        → Goes rules world scope depth outer edition Has (argument_left rules world scope depth outer (record p { here = from_group; begun = Other }) from_group) mid new there after
-        → Goes rules world scope depth outer edition Has (kept_left rules world scope depth outer beginning from_group p) old new before after
+        → Goes dialect world scope depth outer edition Has (argument_left dialect world scope depth outer (record p { here = from_group; begun = after_name p.begun }) from_group) mid new there after
+        → Goes dialect world scope depth outer edition Has (kept_left dialect world scope depth outer beginning from_group p) old new before after
     goes_kept beginning from_group mid there locals less adds g = record {
       next = g.next;
       at = g.at;
@@ -347,7 +348,7 @@ module _ (rules : ScopeRules) (world : World Numbered) (scope : List ℕ → Opt
     -- names were looked up before a turn
     pub goes_looked : (xs : List (List ℕ × Option Numbered)) (from now : Left) (old mid new : Search S) (before after : ListWalk) → from ≡ then_left (looks xs) now
         → ((o : Outcome Numbered) → Adds Has mid.out new.out o → Adds Has old.out new.out (followed_by (looks xs) o)) → mid.locals ≡ old.locals
-        → Goes rules world scope depth outer edition Has now mid new before after → Goes rules world scope depth outer edition Has from old new before after
+        → Goes dialect world scope depth outer edition Has now mid new before after → Goes dialect world scope depth outer edition Has from old new before after
     goes_looked xs from now old mid new before after is more locals g = record {
       next = g.next;
       at = g.at;
@@ -360,7 +361,7 @@ module _ (rules : ScopeRules) (world : World Numbered) (scope : List ℕ → Opt
 
     -- ---- a call
 
-    module _ (old mid : Search S) (w : ListWalk) (p : Place) (at : IsAt w old.locals p) (plain : IsPlainAhead rules p) (c : Call) (e : call_at w.trees.here ≡ Some c)
+    module _ (old mid : Search S) (w : ListWalk) (p : Place) (at : IsAt w old.locals p) (plain : IsPlainAhead dialect p) (c : Call) (e : call_at w.trees.here ≡ Some c)
         (same_locals : mid.locals ≡ old.locals) (same_output : mid.out.output ≡ old.out.output) (same_faults : mid.out.faults ≡ old.out.faults)
         (finds : map find_of mid.out.finds.items ≡ map find_of old.out.finds.items ++ lookups_of scope (locals_of old.locals) w.trees.here c) where
       abbrev pub call_is : IsCall p.here c true
@@ -391,33 +392,40 @@ module _ (rules : ScopeRules) (world : World Numbered) (scope : List ℕ → Opt
       group_begins = (call_is.brackets, c.argument, c.rest, call_is.group_is)
 
       -- it finds nothing
-      pub goes_unknown : (new : Search S) (after : ListWalk) → None ≡ resolved scope (locals_of old.locals) w.trees.here c → mid.rules ≡ rules
-          → Goes mid.rules world scope depth outer edition Has (kept_left mid.rules world scope depth outer opens_before c.from_group p) mid new w after
-          → Goes rules world scope depth outer edition Has (whole_left p) old new w after
-      goes_unknown new after nothing same g =
-          goes_looked xs (whole_left p) (kept_left rules world scope depth outer opens_before c.from_group p) old mid new w after
-          (unknown_left rules world scope depth outer p plain c call_is (resolved_is None nothing)) (looked_first new) same_locals
-          (subst (λ r. Goes r world scope depth outer edition Has (kept_left r world scope depth outer opens_before c.from_group p) mid new w after) same g)
+      pub goes_unknown : (new : Search S) (after : ListWalk) → None ≡ resolved scope (locals_of old.locals) w.trees.here c
+          → Goes dialect world scope depth outer edition Has (kept_left dialect world scope depth outer opens_before c.from_group p) mid new w after
+          → Goes dialect world scope depth outer edition Has (whole_left p) old new w after
+      goes_unknown new after nothing g =
+          goes_looked xs (whole_left p) (kept_left dialect world scope depth outer opens_before c.from_group p) old mid new w after
+          (unknown_left dialect world scope depth outer p plain c call_is (resolved_is None nothing)) (looked_first new) same_locals g
 
       -- the place behind it
-      abbrev behind_it : List Definition → Place
-      behind_it ds = behind_call rules world scope depth outer p plain c ds
+      abbrev behind_it : Bool → List Definition → Place
+      behind_it gone ds = behind_call dialect world scope depth outer p plain gone c ds
+
+      -- it stands alone in a list of items
+      abbrev pub alone : Bool
+      alone = is_alone_at dialect w.begun w.standing c.from_group
+
+      alone_is : alone ≡ stands_alone dialect world scope depth outer p plain c true call_is
+      alone_is = (λ i. is_alone_at dialect (at.begun i) (at.standing i) (call_is.group_is i))
 
       smaller : size c.rest < size w.trees.here
       smaller = rest_smaller w.trees.here c e
 
       -- the traversal goes on behind the call
-      pub record IsBehind (after : ListWalk) : Type 0 where
+      pub record IsBehind (gone : Bool) (after : ListWalk) : Type 0 where
         pub here : after.trees.here ≡ c.rest
         pub groups : groups_of after.trees ≡ groups_of w.trees
-        pub begun : after.begun ≡ begun_behind c.from_group
+        pub begun : after.begun ≡ begun_behind gone w.begun c.from_group
         pub standing : after.standing ≡ w.standing
         pub levels : after.levels ≡ w.levels
 
-      stands_behind : (new : Search S) (after : ListWalk) (ds : List Definition) → IsBehind after → locals_of new.locals ≡ ds ++ locals_of mid.locals → IsAt after new.locals (behind_it ds)
-      stands_behind new after ds b locals = record {
+      stands_behind : (gone : Bool) (new : Search S) (after : ListWalk) (ds : List Definition) → IsBehind gone after → locals_of new.locals ≡ ds ++ locals_of mid.locals
+          → IsAt after new.locals (behind_it gone ds)
+      stands_behind gone new after ds b locals = record {
         here = b.here;
-        begun = b.begun;
+        begun = b.begun ∙ ap (λ s. begun_behind gone s c.from_group) at.begun;
         standing = b.standing ∙ at.standing;
         locals = locals ∙ ap (λ l. ds ++ locals_of l) same_locals ∙ ap (λ ls. ds ++ ls) at.locals;
         groups = b.groups ∙ at.groups;
@@ -430,12 +438,12 @@ module _ (rules : ScopeRules) (world : World Numbered) (scope : List ℕ → Opt
           → (kind : FaultKind) → answer world d depth c.argument ≡ Err kind
           → told.out.output ≡ mid.out.output → told.out.faults.items ≡ mid.out.faults.items ++ (kind, unwrap_or outer c.name.span) ∷ [] → told.out.finds ≡ mid.out.finds
           → ((passed : Forest) → w.trees.here ≡ joined passed c.rest → Adds Has told.out new.out (just outer (walk passed)))
-          → new.locals ≡ mid.locals → IsBehind after → Goes rules world scope depth outer edition Has (whole_left p) old new w after
+          → new.locals ≡ mid.locals → IsBehind false after → Goes dialect world scope depth outer edition Has (whole_left p) old new w after
       goes_stays told new after d found kind says sink faults looked adds locals b =
-          let is = stays_left rules world scope depth outer p plain c call_is d (resolved_is (Some d) found) kind says in
-          let site : CallSite = site_of rules world scope depth p.here c true call_is in record {
-            next = behind_it [];
-            at = stands_behind new after [] b (ap locals_of locals);
+          let is = stays_left dialect world scope depth outer p plain c call_is d (resolved_is (Some d) found) kind says in
+          let site : CallSite = site_of dialect world scope depth p.here c true call_is in record {
+            next = behind_it false [];
+            at = stands_behind false new after [] b (ap locals_of locals);
             outcome = followed_by (looks xs) (bursting is.0 (stays kind outer site));
             is = is.1;
             adds = looked_first new (bursting is.0 (stays kind outer site)) (bursts_too (stays kind outer site) is.0 mid new
@@ -448,28 +456,26 @@ module _ (rules : ScopeRules) (world : World Numbered) (scope : List ℕ → Opt
           bursts_too o t one two a = record { steps = a.steps; faults = a.faults; finds = a.finds }
 
       -- its result is searched, in the surroundings of the call
-      abbrev pub result_of : ScopeRules → Forest → Scoped Numbered
-      result_of r g = searched r world scope (depth - 1) (record { standing = w.standing; outer = Some (unwrap_or outer c.name.span); locals = locals_of mid.locals }) g
+      abbrev pub result_of : Forest → Scoped Numbered
+      result_of g = searched dialect world scope (depth - 1) (record { standing = w.standing; outer = Some (unwrap_or outer c.name.span); locals = locals_of mid.locals }) g
 
-      result_is : (d : Numbered) (g : Forest) → result_of rules g ≡ deeper rules world scope rules d (here_in rules world scope depth outer p.standing p.locals) (site_of rules world scope depth p.here c true call_is) depth g
-      result_is d g = λ i. searched rules world scope (depth - 1)
+      result_is : (d : Numbered) (g : Forest) → result_of g ≡ deeper dialect world scope d (here_in dialect world scope depth outer p.standing p.locals) (site_of dialect world scope depth p.here c true call_is) depth g
+      result_is d g = λ i. searched dialect world scope (depth - 1)
           (record { standing = at.standing i; outer = Some (unwrap_or outer c.name.span); locals = (ap locals_of same_locals ∙ at.locals) i }) g
 
       pub goes_comes : (new : Search S) (after : ListWalk) (d : Numbered) → Some d ≡ resolved scope (locals_of old.locals) w.trees.here c
-          → (g : Forest) → answer world d depth c.argument ≡ Ok g → mid.rules ≡ rules
-          → Adds Has mid.out new.out (result_of mid.rules g).outcome
-          → locals_of new.locals ≡ (result_of mid.rules g).defines ++ locals_of mid.locals → AreReadIn edition new.locals → IsBehind after
-          → Goes rules world scope depth outer edition Has (whole_left p) old new w after
-      goes_comes new after d found g says same added made read b =
-          let a : Scoped Numbered = result_of rules g in
-          let adds : Adds Has mid.out new.out a.outcome = subst (λ r. Adds Has mid.out new.out (result_of r g).outcome) same added in
-          let locals : locals_of new.locals ≡ a.defines ++ locals_of mid.locals = made ∙ ap (λ r. (result_of r g).defines ++ locals_of mid.locals) same in
+          → (g : Forest) → answer world d depth c.argument ≡ Ok g
+          → Adds Has mid.out new.out (result_of g).outcome
+          → locals_of new.locals ≡ (result_of g).defines ++ locals_of mid.locals → AreReadIn edition new.locals → IsBehind alone after
+          → Goes dialect world scope depth outer edition Has (whole_left p) old new w after
+      goes_comes new after d found g says adds locals read b =
+          let a : Scoped Numbered = result_of g in
           let t : Bool = world.bursts d c.argument in
-          let is = comes_left rules world scope depth outer p plain c call_is d (resolved_is (Some d) found) g says in record {
-            next = behind_it a.defines;
-            at = stands_behind new after a.defines b locals;
+          let is = comes_left dialect world scope depth outer p plain c call_is d (resolved_is (Some d) found) g says in record {
+            next = behind_it alone a.defines;
+            at = stands_behind alone new after a.defines b locals;
             outcome = followed_by (looks xs) (bursting t a.outcome);
-            is = is ∙ ap (λ (x : Scoped Numbered). then_left (followed_by (looks xs) (bursting t x.outcome)) (whole_left (behind_it x.defines))) (sym (result_is d g));
+            is = is ∙ (λ i. then_left (followed_by (looks xs) (bursting t (sym (result_is d g) i).outcome)) (whole_left (behind_it (sym alone_is i) (sym (result_is d g) i).defines)));
             adds = looked_first new (bursting t a.outcome) (record { steps = adds.steps; faults = adds.faults; finds = adds.finds });
             read = λ old_read. read;
             less = omega (arith, ap size b.here, ap steps_in b.groups, smaller);
@@ -477,17 +483,17 @@ module _ (rules : ScopeRules) (world : World Numbered) (scope : List ℕ → Opt
 
       -- where it makes too many tokens, the whole does
       pub answer_too_many : (d : Numbered) → Some d ≡ resolved scope (locals_of old.locals) w.trees.here c → makes_too_many world d depth c.argument ≡ true → (whole_left p).0.bursts ≡ true
-      answer_too_many d found much = answer_bursts rules world scope depth outer p plain c call_is d (resolved_is (Some d) found) much
+      answer_too_many d found much = answer_bursts dialect world scope depth outer p plain c call_is d (resolved_is (Some d) found) much
 
       pub result_too_many : (d : Numbered) → Some d ≡ resolved scope (locals_of old.locals) w.trees.here c → (g : Forest) → answer world d depth c.argument ≡ Ok g
-          → mid.rules ≡ rules → (result_of mid.rules g).outcome.bursts ≡ true → (whole_left p).0.bursts ≡ true
-      result_too_many d found g says same much =
-          result_bursts rules world scope depth outer p plain c call_is d (resolved_is (Some d) found) g says
-          (ap (λ (x : Scoped Numbered). x.outcome.bursts) (sym (result_is d g)) ∙ ap (λ r. (result_of r g).outcome.bursts) (sym same) ∙ much)
+          → (result_of g).outcome.bursts ≡ true → (whole_left p).0.bursts ≡ true
+      result_too_many d found g says much =
+          result_bursts dialect world scope depth outer p plain c call_is d (resolved_is (Some d) found) g says
+          (ap (λ (x : Scoped Numbered). x.outcome.bursts) (sym (result_is d g)) ∙ much)
 
     -- ---- what would be a call but for the `::` before it
 
-    module _ (old new : Search S) (w after : ListWalk) (p : Place) (at : IsAt w old.locals p) (plain : IsPlainAhead rules p) (c : Call) (e : call_behind_colons w.trees.here ≡ Some c) where
+    module _ (old new : Search S) (w after : ListWalk) (p : Place) (at : IsAt w old.locals p) (plain : IsPlainAhead dialect p) (c : Call) (e : call_behind_colons w.trees.here ≡ Some c) where
       abbrev colons_is : IsCall p.here c false
       colons_is = colons_is_call p.here c (ap call_behind_colons (sym at.here) ∙ e)
 
@@ -500,18 +506,17 @@ module _ (rules : ScopeRules) (world : World Numbered) (scope : List ℕ → Opt
       pub colons_group : BeginsWithGroup c.from_group
       colons_group = (colons_is.brackets, c.argument, c.rest, colons_is.group_is)
 
-      pub goes_colons : old.rules ≡ rules → Goes old.rules world scope depth outer edition Has (kept_left old.rules world scope depth outer colons_before c.from_group p) old new w after
-          → Goes rules world scope depth outer edition Has (whole_left p) old new w after
-      goes_colons same g =
-          let t = subst (λ r. Goes r world scope depth outer edition Has (kept_left r world scope depth outer colons_before c.from_group p) old new w after) same g in record {
-            next = t.next;
-            at = t.at;
-            outcome = t.outcome;
-            is = colons_left rules world scope depth outer p plain c colons_is ∙ t.is;
-            adds = t.adds;
-            read = t.read;
-            less = t.less;
-          }
+      pub goes_colons : Goes dialect world scope depth outer edition Has (kept_left dialect world scope depth outer colons_before c.from_group p) old new w after
+          → Goes dialect world scope depth outer edition Has (whole_left p) old new w after
+      goes_colons t = record {
+        next = t.next;
+        at = t.at;
+        outcome = t.outcome;
+        is = colons_left dialect world scope depth outer p plain c colons_is ∙ t.is;
+        adds = t.adds;
+        read = t.read;
+        less = t.less;
+      }
 
     -- ---- turn by turn
 
@@ -526,19 +531,19 @@ module _ (rules : ScopeRules) (world : World Numbered) (scope : List ℕ → Opt
 
     pub going_first : (standing : Standing) (trees : Forest) (search : Search S) (w : ListWalk) → w.trees.here ≡ trees → groups_of w.trees ≡ []
         → w.begun ≡ Nothing → w.standing ≡ standing → reverse w.levels.items ≡ [] → AreReadIn edition search.locals
-        → (let a : Scoped Numbered = searched rules world scope depth (here_in rules world scope depth outer standing (locals_of search.locals)) trees in
+        → (let a : Scoped Numbered = searched dialect world scope depth (here_in dialect world scope depth outer standing (locals_of search.locals)) trees in
         Going (a.outcome, a.defines ++ locals_of search.locals) search search w)
     going_first standing trees search w here groups begun standing_is levels read = record {
       place = record { here = trees; begun = Nothing; standing = standing; locals = locals_of search.locals; groups = [] };
       at = record { here = here; begun = begun; standing = standing_is; locals = refl; groups = groups; levels = levels; nested = tt };
       done = just outer [];
-      is = left_at_beginning rules world scope depth outer standing (locals_of search.locals) trees;
+      is = left_at_beginning dialect world scope depth outer standing (locals_of search.locals) trees;
       adds = adds_just Has search.out search.out outer [] (takes_none Has search.out.output) refl refl;
       read = read;
     }
 
     pub going_on : (whole : Left) (first old new : Search S) (before after : ListWalk) (g : Going whole first old before)
-        → Goes rules world scope depth outer edition Has (whole_left g.place) old new before after → Going whole first new after
+        → Goes dialect world scope depth outer edition Has (whole_left g.place) old new before after → Going whole first new after
     going_on whole first old new before after g t = record {
       place = t.next;
       at = t.at;
@@ -547,13 +552,6 @@ module _ (rules : ScopeRules) (world : World Numbered) (scope : List ℕ → Opt
       adds = adds_more Has first.out old.out new.out g.done t.outcome g.adds t.adds;
       read = t.read g.read;
     }
-
-    -- a turn by the rules of the search
-    pub going_turn : (whole : Left) (first old new : Search S) (before after : ListWalk) (g : Going whole first old before) → old.rules ≡ rules
-        → Goes old.rules world scope depth outer edition Has (all_left old.rules world scope depth outer g.place) old new before after → Going whole first new after
-    going_turn whole first old new before after g same t =
-        going_on whole first old new before after g
-        (subst (λ r. Goes r world scope depth outer edition Has (all_left r world scope depth outer g.place) old new before after) same t)
 
     -- nothing is left
     pub going_done : (a : Scoped Numbered) (locals : List Definition) (first now : Search S) (w : ListWalk) (g : Going (a.outcome, a.defines ++ locals) first now w)
@@ -577,8 +575,8 @@ some_from None e = absurd (cc e)
 some_from (Some x) e = (x, refl)
 
 -- no definition begins where none begins in the traversal
-pub plain_at : (w : ListWalk) (l : Locals) (p : Place) → IsAt w l p → (r : ScopeRules) → (r ≡ Rust → w.begun ≡ Nothing → IsAhead w.trees.here None) → IsPlainAhead r p
-plain_at w l p at r nowhere = λ u v. subst (λ f. IsAhead f None) at.here (nowhere u (at.begun ∙ v))
+pub plain_at : (w : ListWalk) (l : Locals) (p : Place) → IsAt w l p → (dialect : Dialect) → (dialect.scope ≡ Rust → w.begun ≡ Nothing → IsAhead w.trees.here None) → IsPlainAhead dialect p
+plain_at w l p at dialect nowhere = λ u v. subst (λ f. IsAhead f None) at.here (nowhere u (at.begun ∙ v))
 
 pub no_call_at : (w : ListWalk) (l : Locals) (p : Place) → IsAt w l p → call_at w.trees.here ≡ None → call_behind_colons w.trees.here ≡ None → IsNoCall p
 no_call_at w l p at a b = (ap call_at (sym at.here) ∙ a, ap call_behind_colons (sym at.here) ∙ b)

@@ -8,14 +8,16 @@ use Rattle.tt_data.specs.Forest.{Forest, map_spans}
 use Rattle.tt_data.specs.declared.span.Span.{Span}
 use Rattle.expander_model.specs.Changes.{outcome_with, Changes, ScopeChange}
 use Rattle.expander_model.specs.Definitions.{Definition, definition_of, nearest}
-use Rattle.expander_model.specs.Expansion.{World, Outcome, expansion}
-use Rattle.expander_model.specs.Held.{Numbered, Met, Stands, anchored, anchored_definition, first_place, mets_after, numbered_world, nearest_met, numbered_of, numbered_scope, place_of, resolve, present_definition, resolve_definition, present, met_of, with_met, kept_of, kept_after, Tells, IsNumbered, IsMet, HasNumber, StandFromFirst}
+use Rattle.expander_model.specs.Expansion.{World, Outcome}
+use Rattle.expander_model.specs.Held.{Numbered, Met, Stands, anchored, anchored_definition, first_place, mets_after, numbered_world, nearest_met, numbered_of, numbered_scope, place_of, resolve, present_definition, resolve_definition, present, unnumbered, met_of, with_met, kept_of, kept_after, Tells, IsNumbered, IsMet, HasNumber, StandFromFirst}
 use Rattle.expander_model.specs.Meaning.{Layers, Member, plain, defining, definitions_after, member, with_definition, members_after}
 use Rattle.expander_model.specs.OtherPlaces.{LooksAtNoPlace, definition_with}
 use Rattle.expander_model.specs.Pieces.{first_start, relative}
+use Rattle.expander_model.specs.Scoping.{Scoped, expanded, without_locals}
+use Rattle.expander_model.specs.declared.scope_rules.Standing.TheVariants.{Top}
 use Rattle.small_grammar.specs.Text.{same_text}
-use Rattle.expander_scope.proofs.ChangeLemmas.{expansion-with}
-use Rattle.expander_model.proofs.DefinitionPlaceLemmas.{definition_with-with, definition_of-with}
+use Rattle.textual_scope.proofs.ChangeLemmas.{scoped-with}
+use Rattle.expander_model.proofs.DefinitionPlaceLemmas.{definition_with-same, definition_with-with, definition_of-with}
 use Rattle.expander_model.proofs.PlaceLemmas.{own_stands, piece_and_back, resolved_piece}
 
 nat_eq-same : (n : ℕ) → nat_eq n n ≡ true
@@ -113,11 +115,13 @@ present_world world law start before = record {
 -- a piece's expansion in places of its own, taken to the text, is its expansion there
 pub resolved_expansion : (world : World Definition) → LooksAtNoPlace world → (table : Forest → ℕ → Type 0) → Tells table
     → (start : ℕ) (before : List Met) → All (IsMet table) before → (depth : ℕ) (tree : Forest)
-    → expansion world (nearest (map present_definition before)) depth None (map_spans (resolve start before) tree)
-    ≡ outcome_with (resolve start before) (resolve_definition start before) (expansion (numbered_world world) (numbered_scope before) depth None tree)
+    → expanded world (λ d. d) (nearest (map present_definition before)) depth (map_spans (resolve start before) tree)
+    ≡ outcome_with (resolve start before) (resolve_definition start before) (expanded (numbered_world world) unnumbered (numbered_scope before) depth tree)
 resolved_expansion world law table tells start before h depth tree =
-    expansion-with (resolve start before) (resolve_definition start before) (numbered_world world) world (present_world world law start before)
-    (numbered_scope before) (nearest (map present_definition before)) (present_scope table tells start before h) depth None tree
+    ap (λ (a : Scoped Definition). a.outcome)
+    (scoped-with (resolve start before) (resolve_definition start before) world.dialect (numbered_world world) world (present_world world law start before) unnumbered (λ d. d)
+    (λ d. ap (definition_with (resolve start before)) (sym (definition_with-same d)))
+    (numbered_scope before) (nearest (map present_definition before)) (present_scope table tells start before h) depth (without_locals Top None) tree)
 
 -- a definition of any text, by its piece-relative tree
 pub definition_there : (p : Forest) → Stands p → definition_of p ≡ option_map (definition_with (moved_to (first_place p))) (definition_of (relative p))
@@ -167,7 +171,7 @@ members_present layers law table tells number_of depth before h (p ∷ ps) g n =
         let there : map_spans (resolve (first_start p) before) (relative p) ≡ p = resolved_piece (first_start p) before p from in
         let scope : List ℕ → Option Definition = nearest (map present_definition before) in
         let rest : List Member = members_after layers depth (map present_definition before) ps in
-        ap (λ (q : Forest). plain q (expansion layers.world scope depth None q) ∷ rest) (sym there)
+        ap (λ (q : Forest). plain q (expanded layers.world (λ d. d) scope depth q) ∷ rest) (sym there)
         ∙ ap (λ (o : Outcome Definition). plain (map_spans (resolve (first_start p) before) (relative p)) o ∷ rest)
         (resolved_expansion layers.world law table tells (first_start p) before h depth (relative p))
         ∙ ap (λ (ms : List Member). present (kept_of layers.world depth number_of before p None) ∷ ms)

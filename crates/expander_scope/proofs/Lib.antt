@@ -6,7 +6,6 @@ pub mod CallLemmas
 pub mod HandedLemmas
 mod DefinitionLemmas
 pub mod TurnLemmas
-pub mod ChangeLemmas
 pub mod HeldLemmas
 pub mod DefinitionIdLemmas
 pub mod DefinitionTextLemmas

@@ -2,7 +2,7 @@
 use Rattle.std.proofs.Common.{◌≡◌, ◌≢◌, ℕ, zero, suc, List, [], ◌∷◌, ◌++◌, refl, sym, ap, ◌∙◌, append_assoc, append-nil, arith, Bool, true, false, if◌then◌else◌}
 use Rattle.std.specs.Prelude.{Option, None}
 use Rattle.tt_data.specs.Forest.{Forest, empty, leaf, group, size}
-use Rattle.tt_data.specs.Walk.{at_leaf, closes, opens}
+use Rattle.tt_data.specs.Walk.{closes, opens}
 use Rattle.tt_data.specs.declared.delimiter.Delimiter.{Delimiter}
 use Rattle.tt_data.specs.declared.leaf.Ident.{Ident}
 use Rattle.tt_data.specs.declared.leaf.Leaf.{Leaf}
@@ -13,125 +13,136 @@ use Rattle.expander_model.specs.Calls.{Path, bare, from_crate, other, mark_leaf,
 use Rattle.expander_model.specs.Definitions.{Definition}
 use Rattle.expander_model.specs.Expansion.{World, Outcome, just, followed_by, grouped, whole_call}
 use Rattle.expander_model.specs.Held.{Numbered, unnumbered}
-use Rattle.expander_model.specs.PieceStates.{after_leaf, after_group}
-use Rattle.expander_model.specs.Scoping.{Around, Scoped, Search, parts, in_group, only, and_next, in_brackets, at_call, kept_call, search_trees, search_parts, search_list, scoped}
+use Rattle.expander_model.specs.PieceStates.{after_call, after_leaf, after_group}
+use Rattle.expander_model.specs.Pieces.{cut}
+use Rattle.expander_model.specs.Scoping.{Around, Scoped, Search, definition_in, in_group, only, and_next, in_brackets, at_call, kept_call, search_leaf, search_list, scoped, takes_end}
 use Rattle.expander_model.specs.declared.begun.Begun.{Begun}
-use Rattle.expander_model.specs.declared.begun.Begun.TheVariants.{Nothing, Pound, PoundBang, Other}
+use Rattle.expander_model.specs.declared.begun.Begun.TheVariants.{Nothing, Pound, PoundBang, Attributes, AttributesPound, Visible, Qualified, Item, Extern, Abi, Gone, Other}
+use Rattle.expander_model.specs.declared.dialect.Dialect.{Dialect}
 use Rattle.expander_model.specs.declared.scope_rules.ScopeRules.{ScopeRules}
 use Rattle.expander_model.specs.declared.scope_rules.ScopeRules.TheVariants.{TopLevel, Rust}
 use Rattle.expander_model.specs.declared.scope_rules.Standing.{Standing}
 use Rattle.expander_scope.specs.Expanding.{deeper_at, searched}
 use Rattle.expander_scope.specs.ListsLeft.{IsAhead, Left, Open, list_left, in_list, groups_left, all_left, then_left, let_out}
-use Rattle.textual_scope.specs.FromLeft.{AreOfCall, trees_left}
-use Rattle.textual_scope.proofs.LeftLemmas.{call_before, at_piece, at_token, at_group, at_a_call, left_nothing, marked-call}
-use Rattle.textual_scope.proofs.MarkLemmas.{unmarked-marked}
-use Rattle.textual_scope.proofs.ResultLemmas.{and_nothing, followed_assoc, followed_by_nothing}
+use Rattle.textual_scope.specs.FromLeft.{AreOfCall, is_begun, pieces_left, trees_left}
+use Rattle.textual_scope.proofs.LeftLemmas.{call_before, at_piece, at_token, at_group, at_a_call, left_nothing}
+use Rattle.textual_scope.proofs.ResultLemmas.{followed_assoc, followed_by_nothing}
 use Rattle.textual_scope.proofs.SizeLemmas.{enough, same_parts, within_parts}
 use Rattle.expander_scope.proofs.OutcomeLemmas.{or_false, outcome_eq}
 
 -- ---- one list
 
-module _ (rules : ScopeRules) (world : World Numbered) (scope : List ℕ → Option Numbered) (depth : ℕ) where
+module _ (dialect : Dialect) (world : World Numbered) (scope : List ℕ → Option Numbered) (depth : ℕ) where
   abbrev S : Search Numbered
-  S = searched rules world scope depth
+  S = searched dialect world scope depth
 
   abbrev deep : Option (Search Numbered)
-  deep = deeper_at rules world scope depth
+  deep = deeper_at dialect world scope depth
 
-  abbrev left : ScopeRules → Begun → Around → Forest → Scoped Numbered
-  left r s around f = list_left rules world scope depth r s around f
+  abbrev left : Begun → Around → Forest → Scoped Numbered
+  left s around f = list_left dialect world scope depth s around f
 
   -- with n levels left a result is searched so
-  pub scoped_is : (n : ℕ) (around : Around) (f : Forest) → scoped rules world unnumbered scope n around f ≡ searched rules world scope n around f
+  pub scoped_is : (n : ℕ) (around : Around) (f : Forest) → scoped dialect world unnumbered scope n around f ≡ searched dialect world scope n around f
   scoped_is zero around f = refl
   scoped_is (suc n) around f = refl
 
-  at_beginning : (r : ScopeRules) (around : Around) (f : Forest) → search_parts r world unnumbered scope S deep around (parts r f) ≡ left r Nothing around f
-  at_beginning TopLevel around f = and_nothing (search_trees TopLevel world unnumbered scope S deep around (marked f)) around
-  at_beginning Rust around f = refl
-
   -- a list is searched as what is left of it at its beginning
-  pub searched_is : (around : Around) (f : Forest) → S around f ≡ left rules Nothing around f
+  pub searched_is : (around : Around) (f : Forest) → S around f ≡ left Nothing around f
   searched_is around f =
-      same_parts rules world unnumbered scope deep (size f) S (search_list rules world unnumbered scope deep (size f))
-      (λ here g less. enough rules world unnumbered scope deep (size f) (suc (size g)) here g less (omega arith)) around (parts rules f)
-      (within_parts rules f)
-      ∙ at_beginning rules around f
+      same_parts dialect world unnumbered scope deep (size f) S (search_list dialect world unnumbered scope deep (size f))
+      (λ here g less. enough dialect world unnumbered scope deep (size f) (suc (size g)) here g less (omega arith)) around (cut f)
+      (within_parts f)
 
   -- nothing is left
-  pub left_empty : (r : ScopeRules) (s : Begun) (around : Around) → left r s around empty ≡ only (just around.outer [])
-  left_empty TopLevel s around = refl
-  left_empty Rust Nothing around = refl
-  left_empty Rust Pound around = left_nothing world unnumbered scope S deep Pound around
-  left_empty Rust PoundBang around = left_nothing world unnumbered scope S deep PoundBang around
-  left_empty Rust Other around = left_nothing world unnumbered scope S deep Other around
+  pub left_empty : (s : Begun) (around : Around) → left s around empty ≡ only (just around.outer [])
+  left_empty s around = elim (is_begun s) as (λ b. (if b then trees_left dialect world unnumbered scope S deep s around empty else pieces_left dialect world unnumbered scope S deep around empty)
+      ≡ only (just around.outer [])) [ true ↦ left_nothing dialect world unnumbered scope S deep s around | false ↦ refl ]
 
   -- no definition begins here
-  abbrev pub IsPlain : ScopeRules → Begun → Forest → Type 0
-  IsPlain r s f = r ≡ Rust → s ≡ Nothing → IsAhead f None
+  abbrev pub IsPlain : Begun → Forest → Type 0
+  IsPlain s f = dialect.scope ≡ Rust → s ≡ Nothing → IsAhead f None
 
-  rust_left : (s : Begun) (around : Around) (f : Forest) → f ≢ empty → IsPlain Rust s f → left Rust s around f ≡ trees_left world unnumbered scope S deep s around f
-  rust_left Nothing around f some plain = at_piece world unnumbered scope S deep around f some (plain refl refl)
-  rust_left Pound around f some plain = refl
-  rust_left PoundBang around f some plain = refl
-  rust_left Other around f some plain = refl
+  none_in : (r : ScopeRules) (f : Forest) → (r ≡ Rust → IsAhead f None) → (p : Forest) (ps : List Forest) → cut f ≡ p ∷ ps → definition_in r p ≡ None
+  none_in TopLevel f plain p ps e = refl
+  none_in Rust f plain p ps e = plain refl p ps e
+
+  not_begun : (s : Begun) → is_begun s ≡ false → s ≡ Nothing
+  not_begun Nothing e = refl
+  not_begun Pound e = absurd (cc e)
+  not_begun PoundBang e = absurd (cc e)
+  not_begun Attributes e = absurd (cc e)
+  not_begun AttributesPound e = absurd (cc e)
+  not_begun Visible e = absurd (cc e)
+  not_begun Qualified e = absurd (cc e)
+  not_begun Item e = absurd (cc e)
+  not_begun Extern e = absurd (cc e)
+  not_begun Abi e = absurd (cc e)
+  not_begun Gone e = absurd (cc e)
+  not_begun Other e = absurd (cc e)
+
+  trees_of_piece : (s : Begun) (around : Around) (f : Forest) → f ≢ empty → IsPlain s f → left s around f ≡ trees_left dialect world unnumbered scope S deep s around f
+  trees_of_piece s around f some plain = go (is_begun s) refl
+    where
+      go : (b : Bool) → is_begun s ≡ b → (if b then trees_left dialect world unnumbered scope S deep s around f else pieces_left dialect world unnumbered scope S deep around f)
+          ≡ trees_left dialect world unnumbered scope S deep s around f
+      go true e = refl
+      go false e =
+          at_piece dialect world unnumbered scope S deep around f some (none_in dialect.scope f (λ rust. plain rust (not_begun s e)))
+          ∙ ap (λ t. trees_left dialect world unnumbered scope S deep t around f) (sym (not_begun s e))
 
   -- a leaf that begins no call
-  pub left_leaf : (r : ScopeRules) (s : Begun) (around : Around) (l : Leaf) (rest : Forest) → IsPlain r s (leaf l rest) → mark_leaf l (marked rest) ≡ token l (marked rest)
-      → left r s around (leaf l rest) ≡ and_next (only (just around.outer (at_leaf l ∷ []))) (λ here. left r (after_leaf s l) here rest) around
-  left_leaf TopLevel s around l rest plain h = ap (search_trees TopLevel world unnumbered scope S deep around) h
-  left_leaf Rust s around l rest plain h =
-      rust_left s around (leaf l rest) (λ e. absurd (cc e)) plain ∙ at_token world unnumbered scope S deep s around l rest h
+  pub left_leaf : (s : Begun) (around : Around) (l : Leaf) (rest : Forest) → IsPlain s (leaf l rest) → mark_leaf l (marked rest) ≡ token l (marked rest)
+      → left s around (leaf l rest) ≡ and_next (search_leaf dialect world unnumbered scope s around l) (λ here. left (after_leaf s l) here rest) around
+  left_leaf s around l rest plain h =
+      trees_of_piece s around (leaf l rest) (λ e. absurd (cc e)) plain ∙ at_token dialect world unnumbered scope S deep s around l rest h
 
   -- a group
-  pub left_group : (r : ScopeRules) (s : Begun) (around : Around) (d : Delimiter) (inner rest : Forest) → IsPlain r s (group d inner rest)
-      → left r s around (group d inner rest)
-      ≡ and_next (in_brackets around.outer d (S (record around { standing = in_group d around.standing }) inner)) (λ here. left r (after_group s d.kind) here rest) around
-  left_group TopLevel s around d inner rest plain =
-      ap (λ f. and_next (in_brackets around.outer d (S (record around { standing = in_group d around.standing }) f))
-      (λ here. search_trees TopLevel world unnumbered scope S deep here (marked rest)) around) (unmarked-marked inner)
-  left_group Rust s around d inner rest plain =
-      rust_left s around (group d inner rest) (λ e. absurd (cc e)) plain ∙ at_group world unnumbered scope S deep s around d inner rest
+  pub left_group : (s : Begun) (around : Around) (d : Delimiter) (inner rest : Forest) → IsPlain s (group d inner rest)
+      → left s around (group d inner rest)
+      ≡ and_next (in_brackets around.outer d (S (record around { standing = in_group s d.kind around.standing }) inner)) (λ here. left (after_group s d.kind) here rest) around
+  left_group s around d inner rest plain =
+      trees_of_piece s around (group d inner rest) (λ e. absurd (cc e)) plain ∙ at_group dialect world unnumbered scope S deep s around d inner rest
 
   -- a call whose argument is this
-  abbrev pub called_in : ScopeRules → Around → Path → Ident → Punct → Delimiter → Forest → Scoped Numbered
-  called_in r around path name bang d argument =
-      at_call r world unnumbered scope deep around path name
+  abbrev pub called_in : Around → Path → Ident → Punct → Delimiter → Forest → Scoped Numbered
+  called_in around path name bang d argument =
+      at_call dialect world unnumbered scope deep around path name
       (record { at = name.span; whole = whole_call path name bang d argument; argument = argument })
-      (kept_call r world unnumbered scope S around path name bang d argument)
+      (kept_call dialect world unnumbered scope S around path name bang d argument)
+
+  -- whether a `;` right behind it goes with it
+  abbrev pub takes_in : Begun → Around → Path → Ident → Delimiter → Forest → Bool
+  takes_in s around path name d argument = takes_end dialect world unnumbered scope deep s around path name d argument
 
   some_call : (path : Path) (name : Ident) (bang : Punct) (d : Delimiter) (inner rest : Forest) → call_before name bang d inner path rest ≢ empty
   some_call bare name bang d inner rest = λ e. absurd (cc e)
   some_call (other p q) name bang d inner rest = λ e. absurd (cc e)
   some_call (from_crate root p q) name bang d inner rest = λ e. absurd (cc e)
 
-  pub left_call : (r : ScopeRules) (s : Begun) (around : Around) (path : Path) (name : Ident) (bang : Punct) (d : Delimiter) (inner rest : Forest) → AreOfCall path bang d
-      → IsPlain r s (call_before name bang d inner path rest)
-      → left r s around (call_before name bang d inner path rest)
-      ≡ and_next (called_in r around path name bang d inner) (λ here. left r (after_group Other d.kind) here rest) around
-  left_call TopLevel s around path name bang d inner rest h plain =
-      ap (search_trees TopLevel world unnumbered scope S deep around) (marked-call name bang d inner path rest h)
-      ∙ ap (λ f. and_next (called_in TopLevel around path name bang d f) (λ here. search_trees TopLevel world unnumbered scope S deep here (marked rest)) around)
-      (unmarked-marked inner)
-  left_call Rust s around path name bang d inner rest h plain =
-      rust_left s around (call_before name bang d inner path rest) (some_call path name bang d inner rest) plain
-      ∙ at_a_call world unnumbered scope S deep s around path name bang d inner rest h
+  pub left_call : (s : Begun) (around : Around) (path : Path) (name : Ident) (bang : Punct) (d : Delimiter) (inner rest : Forest) → AreOfCall path bang d
+      → IsPlain s (call_before name bang d inner path rest)
+      → left s around (call_before name bang d inner path rest)
+      ≡ and_next (called_in around path name bang d inner) (λ here. left (after_call (takes_in s around path name d inner) s d.kind) here rest) around
+  left_call s around path name bang d inner rest h plain =
+      trees_of_piece s around (call_before name bang d inner path rest) (some_call path name bang d inner rest) plain
+      ∙ at_a_call dialect world unnumbered scope S deep s around path name bang d inner rest h
 
 -- ---- a list, and the lists around it
 
 pub then_assoc : (a b : Outcome Numbered) (l : Left) → then_left (followed_by a b) l ≡ then_left a (then_left b l)
 then_assoc a b l = λ i. (followed_assoc a b l.0 i, l.1)
 
-module _ (rules : ScopeRules) (world : World Numbered) (scope : List ℕ → Option Numbered) (depth : ℕ) (outer : Option Span) where
+module _ (dialect : Dialect) (world : World Numbered) (scope : List ℕ → Option Numbered) (depth : ℕ) (outer : Option Span) where
   abbrev pub here_in : Standing → List Definition → Around
   here_in standing locals = record { standing = standing; outer = outer; locals = locals }
 
   -- trees of a list were passed
   pub passed_in : (s t : Begun) (standing : Standing) (locals : List Definition) (f g : Forest) (a : Scoped Numbered) (next : List Definition → Left)
-      → list_left rules world scope depth rules s (here_in standing locals) f ≡ and_next a (λ here. list_left rules world scope depth rules t here g) (here_in standing locals)
-      → in_list rules world scope depth outer s standing locals f next ≡ then_left a.outcome (in_list rules world scope depth outer t standing (a.defines ++ locals) g next)
+      → list_left dialect world scope depth s (here_in standing locals) f ≡ and_next a (λ here. list_left dialect world scope depth t here g) (here_in standing locals)
+      → in_list dialect world scope depth outer s standing locals f next ≡ then_left a.outcome (in_list dialect world scope depth outer t standing (a.defines ++ locals) g next)
   passed_in s t standing locals f g a next e =
-      let b : Scoped Numbered = list_left rules world scope depth rules t (here_in standing (a.defines ++ locals)) g in
+      let b : Scoped Numbered = list_left dialect world scope depth t (here_in standing (a.defines ++ locals)) g in
       ap (λ (x : Scoped Numbered). then_left x.outcome (next (x.defines ++ locals))) e
       ∙ ap (λ ls. then_left (followed_by a.outcome b.outcome) (next ls)) (append_assoc b.defines a.defines locals)
       ∙ then_assoc a.outcome b.outcome (next (b.defines ++ (a.defines ++ locals)))
@@ -150,35 +161,35 @@ module _ (rules : ScopeRules) (world : World Numbered) (scope : List ℕ → Opt
 
   -- a group is entered: its trees are left, and then what is left behind it
   pub entered_in : (t : Begun) (standing inside : Standing) (locals : List Definition) (d : Delimiter) (inner rest : Forest) (gs : List Open)
-      → (let a : Scoped Numbered = in_brackets outer d (searched rules world scope depth (here_in inside locals) inner) in
-      then_left a.outcome (in_list rules world scope depth outer t standing (a.defines ++ locals) rest (groups_left rules world scope depth outer gs)))
+      → (let a : Scoped Numbered = in_brackets outer d (searched dialect world scope depth (here_in inside locals) inner) in
+      then_left a.outcome (in_list dialect world scope depth outer t standing (a.defines ++ locals) rest (groups_left dialect world scope depth outer gs)))
       ≡ then_left (just outer (opens d.kind d.open_span ∷ []))
-      (in_list rules world scope depth outer Nothing inside locals inner (groups_left rules world scope depth outer (opened d rest t standing locals ∷ gs)))
+      (in_list dialect world scope depth outer Nothing inside locals inner (groups_left dialect world scope depth outer (opened d rest t standing locals ∷ gs)))
   entered_in t standing inside locals d inner rest gs =
-      let a : Scoped Numbered = searched rules world scope depth (here_in inside locals) inner in
+      let a : Scoped Numbered = searched dialect world scope depth (here_in inside locals) inner in
       let opening : Outcome Numbered = just outer (opens d.kind d.open_span ∷ []) in
       let closing : Outcome Numbered = just outer (closes d.kind d.close_span ∷ []) in
-      let later : List Definition → Left = λ ls. in_list rules world scope depth outer t standing ls rest (groups_left rules world scope depth outer gs) in
+      let later : List Definition → Left = λ ls. in_list dialect world scope depth outer t standing ls rest (groups_left dialect world scope depth outer gs) in
       let whole : Scoped Numbered → Left = λ x.
       then_left x.outcome (then_left closing (later (let_out d.kind locals (x.defines ++ locals)))) in
       ap (λ ls. then_left (grouped outer d a.outcome) (later ls)) (let_out_is (is_visible d.kind) a.defines locals)
       ∙ ap (λ o. then_left o (later (let_out d.kind locals (a.defines ++ locals)))) (grouped_is d a.outcome)
       ∙ then_assoc opening (followed_by a.outcome closing) (later (let_out d.kind locals (a.defines ++ locals)))
       ∙ ap (then_left opening) (then_assoc a.outcome closing (later (let_out d.kind locals (a.defines ++ locals))))
-      ∙ ap (λ x. then_left opening (whole x)) (searched_is rules world scope depth (here_in inside locals) inner)
+      ∙ ap (λ x. then_left opening (whole x)) (searched_is dialect world scope depth (here_in inside locals) inner)
 
   -- at the end of a list its group closes
   pub left_at_end : (s : Begun) (standing : Standing) (locals : List Definition) (gs : List Open)
-      → in_list rules world scope depth outer s standing locals empty (groups_left rules world scope depth outer gs) ≡ groups_left rules world scope depth outer gs locals
+      → in_list dialect world scope depth outer s standing locals empty (groups_left dialect world scope depth outer gs) ≡ groups_left dialect world scope depth outer gs locals
   left_at_end s standing locals gs =
-      ap (λ (x : Scoped Numbered). then_left x.outcome (groups_left rules world scope depth outer gs (x.defines ++ locals)))
-      (left_empty rules world scope depth rules s (here_in standing locals))
+      ap (λ (x : Scoped Numbered). then_left x.outcome (groups_left dialect world scope depth outer gs (x.defines ++ locals)))
+      (left_empty dialect world scope depth s (here_in standing locals))
 
   -- all that is left at the beginning
   pub left_at_beginning : (standing : Standing) (locals : List Definition) (f : Forest)
-      → (let a : Scoped Numbered = searched rules world scope depth (here_in standing locals) f in (a.outcome, a.defines ++ locals))
-      ≡ all_left rules world scope depth outer (record { here = f; begun = Nothing; standing = standing; locals = locals; groups = [] })
+      → (let a : Scoped Numbered = searched dialect world scope depth (here_in standing locals) f in (a.outcome, a.defines ++ locals))
+      ≡ all_left dialect world scope depth outer (record { here = f; begun = Nothing; standing = standing; locals = locals; groups = [] })
   left_at_beginning standing locals f =
-      let a : Scoped Numbered = list_left rules world scope depth rules Nothing (here_in standing locals) f in
-      ap (λ (x : Scoped Numbered). (x.outcome, x.defines ++ locals)) (searched_is rules world scope depth (here_in standing locals) f)
+      let a : Scoped Numbered = list_left dialect world scope depth Nothing (here_in standing locals) f in
+      ap (λ (x : Scoped Numbered). (x.outcome, x.defines ++ locals)) (searched_is dialect world scope depth (here_in standing locals) f)
       ∙ ap (λ (o : Outcome Numbered). (o, a.defines ++ locals)) (sym (followed_by_nothing a.outcome outer))

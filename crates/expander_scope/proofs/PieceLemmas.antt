@@ -15,7 +15,7 @@ use Rattle.expander_model.specs.declared.begun.Begun.TheVariants.{Nothing}
 use Rattle.expander_scope.specs.ListsLeft.{can_begin}
 use Rattle.textual_scope.specs.FromLeft.{is_begun, piece_ahead, with_group, with_leaf}
 use Rattle.expander_model.specs.PieceStates.{after_leaf, after_group}
-use Rattle.textual_scope.proofs.LeftLemmas.{cut-ahead, ahead-joined}
+use Rattle.textual_scope.proofs.LeftLemmas.{first-ahead, ahead-joined}
 
 first_false : (a b : Bool) → (a || b) ≡ false → a ≡ false
 first_false true b e = absurd (cc e)
@@ -85,7 +85,7 @@ some_ahead (group d inner rest) some =
 go : (f : Forest) → f ≢ empty → can_begin f ≡ false → (p : Forest) (ps : List Forest) → cut f ≡ p ∷ ps → definition_of p ≡ None
 go f some e p ps are =
     let q : Forest × Forest = piece_ahead Nothing f in
-    let both : q.0 ∷ cut q.1 ≡ p ∷ ps = sym (cut-ahead f empty some) ∙ are in
+    let both : q.0 ∷ cut q.1 ≡ p ∷ ps = sym (first-ahead f some) ∙ are in
     let same : q.0 ≡ p = cc both in
     none_here p (ap can_begin (sym same) ∙ sym (same_begin q.0 q.1 (some_ahead f some)) ∙ ap can_begin (ahead-joined f Nothing) ∙ e)
 

@@ -14,14 +14,14 @@ use Rattle.expander_model.specs.Expansion.{World, Outcome, Deeper, PlacedStep, e
 use Rattle.expander_model.specs.Faults.{is_definition_word}
 use Rattle.expander_model.specs.Held.{Numbered, unnumbered}
 use Rattle.expander_model.specs.Scoping.{Around, Scoped, only, scoped, without_locals}
-use Rattle.expander_model.specs.declared.scope_rules.ScopeRules.{ScopeRules}
-use Rattle.expander_model.specs.declared.scope_rules.ScopeRules.TheVariants.{TopLevel, Rust}
+use Rattle.expander_model.specs.declared.dialect.Dialect.{Dialect}
+use Rattle.expander_model.specs.declared.scope_rules.ScopeRules.TheVariants.{Rust}
 use Rattle.expander_model.specs.declared.scope_rules.Standing.TheVariants.{Top}
 use Rattle.expander_model.specs.WalkSteps.{groups_of, GoesOn}
 use Rattle.expander_model.specs.declared.tree_walk.TreeWalk.{TreeWalk}
 use Rattle.textual_scope.specs.Keywords.{HasNoKeyword}
 use Rattle.textual_scope.proofs.AgreementLemmas.{agree_scoped}
-use Rattle.textual_scope.proofs.RuleLemmas.{top_level, wordless_scoped}
+use Rattle.textual_scope.proofs.RuleLemmas.{unfound_scoped}
 use Rattle.expander_scope.proofs.OutcomeLemmas.{followed_nil, left, step_left, nothing_left, walk_search}
 use Rattle.expander_scope.proofs.TurnLemmas.{is_search, leaf_search}
 
@@ -96,27 +96,23 @@ wordless_done trees before after wordless ends =
 
 -- ---- a whole tree
 
-module _ (rules : ScopeRules) (world : World Numbered) (depth : ℕ) (f : Forest) where
+module _ (dialect : Dialect) (world : World Numbered) (depth : ℕ) (f : Forest) where
   abbrev nothing : List ℕ → Option Numbered
   nothing key = None
 
-  in_scope : (scope : List ℕ → Option Numbered) → ((deeper : Deeper Numbered) → search_calls world scope deeper None (marked f) ≡ just None (walk f))
-      → (n : ℕ) → expansion world scope n None f ≡ just None (walk f)
-  in_scope scope quiet zero = quiet None
-  in_scope scope quiet (suc n) = quiet (Some (expansion world scope n))
+  -- where nothing is found, a tree without calls is expanded to itself
+  in_nothing : ((deeper : Deeper Numbered) → search_calls world nothing deeper None (marked f) ≡ just None (walk f)) → (n : ℕ) → expansion world nothing n None f ≡ just None (walk f)
+  in_nothing quiet zero = quiet None
+  in_nothing quiet (suc n) = quiet (Some (expansion world nothing n))
 
-  -- a tree without calls is expanded to itself, if where lists have definitions it has no keyword of one
-  pub quiet_scoped : (scope : List ℕ → Option Numbered) → (rules ≡ Rust → HasNoKeyword f)
+  -- so is it in every scope, if where lists have definitions it has no keyword of one
+  pub quiet_scoped : (scope : List ℕ → Option Numbered) → (dialect.scope ≡ Rust → HasNoKeyword f)
       → ((world : World Numbered) (scope : List ℕ → Option Numbered) (deeper : Deeper Numbered) (outer : Option Span) → search_calls world scope deeper outer (marked f) ≡ just outer (walk f))
-      → scoped rules world unnumbered scope depth (without_locals Top None) f ≡ only (just None (walk f))
-  quiet_scoped scope wordless quiet = go rules wordless
-    where
-      go : (r : ScopeRules) → (r ≡ Rust → HasNoKeyword f) → scoped r world unnumbered scope depth (without_locals Top None) f ≡ only (just None (walk f))
-      go TopLevel words = top_level world unnumbered scope depth Top None f ∙ ap only (in_scope scope (λ deeper. quiet world scope deeper None) depth)
-      go Rust words =
-          let around : Around = without_locals Top None in
-          let is : scoped Rust world unnumbered nothing depth around f ≡ only (just None (walk f)) =
-          wordless_scoped world unnumbered depth f (words refl) ∙ ap only (in_scope nothing (λ deeper. quiet world nothing deeper None) depth) in
-          agree_scoped Rust world unnumbered nothing scope depth around f
-          (subst (λ (a : Scoped Numbered). All (λ find. scope find.0 ≡ find.1) a.outcome.finds) (sym is) (All-nil (λ find. scope find.0 ≡ find.1)))
-          ∙ is
+      → scoped dialect world unnumbered scope depth (without_locals Top None) f ≡ only (just None (walk f))
+  quiet_scoped scope wordless quiet =
+      let around : Around = without_locals Top None in
+      let is : scoped dialect world unnumbered nothing depth around f ≡ only (just None (walk f)) =
+      unfound_scoped world unnumbered depth f dialect wordless ∙ ap only (in_nothing (λ deeper. quiet world nothing deeper None) depth) in
+      agree_scoped dialect world unnumbered nothing scope depth around f
+      (subst (λ (a : Scoped Numbered). All (λ find. scope find.0 ≡ find.1) a.outcome.finds) (sym is) (All-nil (λ find. scope find.0 ≡ find.1)))
+      ∙ is

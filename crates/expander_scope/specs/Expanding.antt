@@ -11,7 +11,7 @@ use Rattle.expander_model.specs.declared.scope_rules.Standing.{Standing}
 use Rattle.expander_scope.specs.LocalTables.{locals_of}
 use Rattle.expander_scope.specs.declared.locals.Locals.{Locals}
 use Rattle.tt_data.specs.declared.span.Span.{Span}
-use Rattle.expander_model.specs.declared.scope_rules.ScopeRules.{ScopeRules}
+use Rattle.expander_model.specs.declared.dialect.Dialect.{Dialect}
 use Rattle.expander_model.specs.Held.{Numbered, numbered_world, unnumbered}
 use Rattle.expander_model.specs.World.{world}
 use Rattle.mbe.specs.Grammar.{Grammar}
@@ -27,16 +27,16 @@ answer_at zero given = Err RecursionLimit
 answer_at (suc n) None = Err CannotExpand
 answer_at (suc n) (Some result) = Ok result
 
-module _ (rules : ScopeRules) (world : World Numbered) where
+module _ (dialect : Dialect) (world : World Numbered) where
   -- how results are searched with so many levels left: not at all with none
   abbrev pub deeper_at : (List ℕ → Option Numbered) → ℕ → Option (Search Numbered)
   deeper_at scope zero = None
-  deeper_at scope (suc n) = Some (scoped rules world unnumbered scope n)
+  deeper_at scope (suc n) = Some (scoped dialect world unnumbered scope n)
 
   -- the search of a list with so many levels left
   abbrev pub searched : (List ℕ → Option Numbered) → ℕ → Search Numbered
   searched scope depth around f =
-      search_list rules world unnumbered scope (deeper_at scope depth)
+      search_list dialect world unnumbered scope (deeper_at scope depth)
       (suc (size f)) around f
 
 module _ (world : World Numbered) where
@@ -49,14 +49,14 @@ module _ (world : World Numbered) where
   makes_too_many d zero argument = false
   makes_too_many d (suc n) argument = not (world.broken d) && world.bursts d argument
 
--- what a definition means by this grammar, in the edition of this table
-abbrev pub world_under : Grammar → table.Scope → World Numbered
-world_under grammar s = numbered_world (world grammar s.edition)
+-- what a definition means by this grammar and dialect, in the edition of this table
+abbrev pub world_under : Grammar → table.Scope → Dialect → World Numbered
+world_under grammar s dialect = numbered_world (world grammar s.edition dialect)
 
--- the search of a list by this grammar and these rules, in the scope of this table
-abbrev pub searched_under : ScopeRules → Grammar → table.Scope → ℕ → Search Numbered
-searched_under rules grammar s depth around f =
-    searched rules (world_under grammar s) (scope_in s) depth around f
+-- the search of a list by this grammar and dialect, in the scope of this table
+abbrev pub searched_under : Grammar → table.Scope → Dialect → ℕ → Search Numbered
+searched_under grammar s dialect depth around f =
+    searched dialect (world_under grammar s dialect) (scope_in s) depth around f
 
 -- a list with these definitions around
 abbrev pub around_in : Standing → Option Span → Locals → Around

@@ -7,17 +7,14 @@ use Rattle.tt_data.specs.Walk.{closes}
 use Rattle.tt_data.specs.declared.delimiter.DelimiterKind.{DelimiterKind}
 use Rattle.tt_data.specs.declared.leaf.Leaf.TheVariants as as_leaf
 use Rattle.tt_data.specs.declared.span.Span.{Span}
-use Rattle.expander_model.specs.Calls.{marked}
 use Rattle.expander_model.specs.Definitions.{Definition, definition_of}
 use Rattle.expander_model.specs.Expansion.{World, Outcome, just, followed_by}
 use Rattle.expander_model.specs.Held.{Numbered, unnumbered}
 use Rattle.expander_model.specs.Pieces.{cut}
-use Rattle.expander_model.specs.Scoping.{Around, Scoped, search_trees}
+use Rattle.expander_model.specs.Scoping.{Around, Scoped}
 use Rattle.expander_model.specs.declared.begun.Begun.{Begun}
-use Rattle.expander_model.specs.declared.scope_rules.ScopeRules.{ScopeRules}
-use Rattle.expander_model.specs.declared.scope_rules.ScopeRules.TheVariants.{TopLevel, Rust}
+use Rattle.expander_model.specs.declared.dialect.Dialect.{Dialect}
 use Rattle.expander_model.specs.declared.scope_rules.Standing.{Standing}
-use Rattle.expander_model.specs.declared.scope_rules.Standing.TheVariants.{Top, Enclosed}
 use Rattle.expander_scope.specs.Expanding.{deeper_at, searched}
 use Rattle.textual_scope.specs.FromLeft.{left_after}
 
@@ -37,11 +34,6 @@ IsAhead f (Some (p, rest)) =
 IsAhead f None = (p : Forest) (ps : List Forest) → cut f ≡ p ∷ ps → definition_of p ≡ None
 
 -- ---- where a search stands
-
--- where the list in a group of this kind is
-abbrev pub standing_in : DelimiterKind → Standing → Standing
-standing_in k Top = if is_visible k then Enclosed else Top
-standing_in k s = s
 
 -- an open group: what closes it, the trees behind it, and how the list around it goes on
 pub record Open : Type 0 where
@@ -73,16 +65,13 @@ then_left o l = (followed_by o l.0, l.1)
 abbrev pub let_out : DelimiterKind → List Definition → List Definition → List Definition
 let_out k around inside = if is_visible k then around else inside
 
-module _ (rules : ScopeRules) (world : World Numbered) (scope : List ℕ → Option Numbered)
+module _ (dialect : Dialect) (world : World Numbered) (scope : List ℕ → Option Numbered)
     (depth : ℕ) where
   -- the search of the trees left in a list
-  abbrev pub list_left : ScopeRules → Begun → Around → Forest → Scoped Numbered
-  list_left TopLevel s around f =
-      search_trees TopLevel world unnumbered scope (searched rules world scope depth)
-      (deeper_at rules world scope depth) around (marked f)
-  list_left Rust s around f =
-      left_after world unnumbered scope (searched rules world scope depth) (deeper_at rules world scope depth)
-      s around f
+  abbrev pub list_left : Begun → Around → Forest → Scoped Numbered
+  list_left s around f =
+      left_after dialect world unnumbered scope (searched dialect world scope depth)
+      (deeper_at dialect world scope depth) s around f
 
   module _ (outer : Option Span) where
     -- that of a list, and then what is left around it
@@ -90,7 +79,7 @@ module _ (rules : ScopeRules) (world : World Numbered) (scope : List ℕ → Opt
         → Left
     in_list s standing locals f next =
         let a : Scoped Numbered =
-        list_left rules s
+        list_left s
         (record { standing = standing; outer = outer; locals = locals }) f in
         then_left a.outcome (next (a.defines ++ locals))
 

@@ -4,7 +4,8 @@ use Rattle.bridge.specs.Text.{is_char}
 use Rattle.small_grammar.specs.Text.{◌>>=◌}
 use Rattle.tt.specs.FirstTrees.{first_ident, first_punct, first_group}
 use Rattle.tt_data.specs.Forest.{Forest, group, size}
-use Rattle.tt_data.specs.Walk.{walk}
+use Rattle.tt_data.specs.Walk.{Step, at_leaf, walk}
+use Rattle.tt_data.specs.declared.leaf.Leaf.{Leaf}
 use Rattle.tt_data.specs.declared.delimiter.Delimiter.{Delimiter}
 use Rattle.tt_data.specs.declared.edition.Edition.{Edition}
 use Rattle.tt_data.specs.declared.span.Span.{Span}
@@ -13,13 +14,14 @@ use Rattle.expander_model.specs.CallSteps.{call_at, call_behind_colons, key_at}
 use Rattle.expander_model.specs.Definitions.{Definition, nearest, or_else}
 use Rattle.expander_model.specs.Expansion.{World, Outcome, PlacedStep, just}
 use Rattle.expander_model.specs.Held.{Numbered, unnumbered}
-use Rattle.expander_model.specs.PieceStates.{after_group}
-use Rattle.expander_model.specs.Scoping.{Scoped, in_brackets}
+use Rattle.expander_model.specs.PieceStates.{after_call, after_group, after_name, is_dropped}
+use Rattle.expander_model.specs.Scoping.{Scoped, in_brackets, is_alone_in}
+use Rattle.expander_model.specs.declared.scope_rules.Standing.{Standing}
 use Rattle.expander_model.specs.WalkSteps.{groups_of}
 use Rattle.expander_model.specs.declared.begun.Begun.{Begun}
 use Rattle.expander_model.specs.declared.begun.Begun.TheVariants as begun
 use Rattle.expander_model.specs.declared.call.Call.{Call}
-use Rattle.expander_model.specs.declared.scope_rules.ScopeRules.{ScopeRules}
+use Rattle.expander_model.specs.declared.dialect.Dialect.{Dialect}
 use Rattle.expander_model.specs.declared.scope_rules.ScopeRules.TheVariants.{Rust}
 use Rattle.expander_model.specs.declared.scope_rules.Standing.TheVariants.{Argument}
 use Rattle.expander_model.specs.declared.fault.FaultKind.{FaultKind}
@@ -58,15 +60,27 @@ abbrev pub lookups_of : (List ℕ → Option Numbered) → List Definition → F
 lookups_of scope locals f c =
     if is_some (local_at locals f c) then [] else (key_at f c, scope (key_at f c)) ∷ []
 
--- what of a piece came behind a call whose group these trees begin with
-abbrev pub begun_behind : Forest → Begun
-begun_behind f = unwrap_or (do
+-- what of a piece came behind a call whose group these trees begin with; `gone` tells that a `;`
+-- right behind goes with it
+abbrev pub begun_behind : Bool → Begun → Forest → Begun
+begun_behind gone s f = unwrap_or (do
   (d, inner, rest) ← first_group f
-  Some (after_group begun.Other d.kind)) begun.Other
+  Some (after_call gone s d.kind)) begun.Other
+
+-- a call whose group these trees begin with stands alone in a list of items, in parentheses or
+-- brackets
+abbrev pub is_alone_at : Dialect → Begun → Standing → Forest → Bool
+is_alone_at dialect s standing f = unwrap_or (do
+  (d, inner, rest) ← first_group f
+  Some (is_alone_in dialect s standing d)) false
 
 -- the fault of a definition that is invalid, at this place
 abbrev pub broken_at : Bool → Span → List (FaultKind × Span)
 broken_at broken at = if broken then (BrokenDefinition, at) ∷ [] else []
+
+-- a leaf before which so much came of its piece, unless it is a `;` that went with a call
+abbrev pub shown_of : Begun → Leaf → List Step
+shown_of s l = if is_dropped s l then [] else at_leaf l ∷ []
 
 -- ---- where a search stands
 
@@ -103,8 +117,8 @@ abbrev pub turns_left : ListWalk → ℕ
 turns_left w = 2 * size w.trees.here + steps_in (groups_of w.trees)
 
 -- no piece that is a definition begins here
-abbrev pub IsPlainAhead : ScopeRules → Place → Type 0
-IsPlainAhead rules p = rules ≡ Rust → p.begun ≡ begun.Nothing → IsAhead p.here None
+abbrev pub IsPlainAhead : Dialect → Place → Type 0
+IsPlainAhead dialect p = dialect.scope ≡ Rust → p.begun ≡ begun.Nothing → IsAhead p.here None
 
 -- neither does a call, nor what would be one but for the `::` before it
 abbrev pub IsNoCall : Place → Type 0
@@ -116,33 +130,33 @@ BeginsWithGroup f = (d : Delimiter) × (inner : Forest) × (rest : Forest) × (f
 
 -- the next event can be passed: it is the opening of an argument, or no call and no definition
 -- begins here
-abbrev pub IsPassable : ScopeRules → Bool → Place → Type 0
-IsPassable rules true p = BeginsWithGroup p.here
-IsPassable rules false p = IsPlainAhead rules p × IsNoCall p
+abbrev pub IsPassable : Dialect → Bool → Place → Type 0
+IsPassable dialect true p = BeginsWithGroup p.here
+IsPassable dialect false p = IsPlainAhead dialect p × IsNoCall p
 
-module _ (rules : ScopeRules) (world : World Numbered) (scope : List ℕ → Option Numbered)
+module _ (dialect : Dialect) (world : World Numbered) (scope : List ℕ → Option Numbered)
     (depth : ℕ) (outer : Option Span) where
   -- what is left where the group ahead is that of a call that stays
   abbrev pub argument_left : Place → Forest → Left
   argument_left p (group d inner rest) =
       let a : Scoped Numbered =
-      in_brackets outer d (searched rules world scope depth
+      in_brackets outer d (searched dialect world scope depth
       (record { standing = Argument; outer = outer; locals = p.locals }) inner) in
       then_left a.outcome
-      (in_list rules world scope depth outer (after_group p.begun d.kind) p.standing
-      (a.defines ++ p.locals) rest (groups_left rules world scope depth outer p.groups))
-  argument_left p _ = all_left rules world scope depth outer p
+      (in_list dialect world scope depth outer (after_group p.begun d.kind) p.standing
+      (a.defines ++ p.locals) rest (groups_left dialect world scope depth outer p.groups))
+  argument_left p _ = all_left dialect world scope depth outer p
 
   -- what is left of a call that stays: the trees before its group, its group, and the rest
   abbrev pub kept_left : Forest → Forest → Place → Left
   kept_left before from_group p =
       then_left (just outer (walk before))
-      (argument_left (record p { here = from_group; begun = begun.Other }) from_group)
+      (argument_left (record p { here = from_group; begun = after_name p.begun }) from_group)
 
   -- what is left, where the group ahead may be that of such a call
   abbrev pub left_ahead : Bool → Place → Left
   left_ahead true p = argument_left p p.here
-  left_ahead false p = all_left rules world scope depth outer p
+  left_ahead false p = all_left dialect world scope depth outer p
 
   -- `Has` tells which events a sink has taken. The search went on from what was left to another
   -- place, and added what comes between
@@ -151,18 +165,18 @@ module _ (rules : ScopeRules) (world : World Numbered) (scope : List ℕ → Opt
     pub next : Place
     pub at : IsAt after new.locals next
     pub outcome : Outcome Numbered
-    pub is : from ≡ then_left outcome (all_left rules world scope depth outer next)
+    pub is : from ≡ then_left outcome (all_left dialect world scope depth outer next)
     pub adds : Adds Has old.out new.out outcome
     pub read : AreReadIn edition old.locals → AreReadIn edition new.locals
     pub less : turns_left after < turns_left before
 
--- the same by this grammar and these rules, in the scope of this table
-abbrev pub left_under : ScopeRules → Grammar → table.Scope → ℕ → Option Span → Place → Left
-left_under rules grammar s depth outer p =
-    all_left rules (world_under grammar s) (scope_in s) depth outer p
+-- the same by this grammar and dialect, in the scope of this table
+abbrev pub left_under : Grammar → table.Scope → Dialect → ℕ → Option Span → Place → Left
+left_under grammar s dialect depth outer p =
+    all_left dialect (world_under grammar s dialect) (scope_in s) depth outer p
 
-abbrev pub GoesUnder : ScopeRules → Grammar → table.Scope → ℕ → Option Span → {S : Type 0}
+abbrev pub GoesUnder : Grammar → table.Scope → Dialect → ℕ → Option Span → {S : Type 0}
     → (S → List PlacedStep → Type 0) → Place → Search S → Search S → ListWalk → ListWalk → Type 0
-GoesUnder rules grammar s depth outer Has p old new before after =
-    Goes rules (world_under grammar s) (scope_in s) depth outer s.edition Has
-    (left_under rules grammar s depth outer p) old new before after
+GoesUnder grammar s dialect depth outer Has p old new before after =
+    Goes dialect (world_under grammar s dialect) (scope_in s) depth outer s.edition Has
+    (left_under grammar s dialect depth outer p) old new before after

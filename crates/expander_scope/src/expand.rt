@@ -1,6 +1,6 @@
 //! Expands a tree with piece-relative spans: expands its calls from left to right, and searches
 //! each result for further calls.
-ghost use Rattle.std.specs.Prelude.{◌≡◌, ◌-◌, ◌<◌, ℕ, ◌++◌, ◌∷◌, [], List, length, map, true, false, IfOk, IfNone, IfSome, IsOkUnless, OnOk, Option, Some, None, Err, is_some, option_map, if◌then◌else◌};
+ghost use Rattle.std.specs.Prelude.{◌≡◌, ◌-◌, ◌<◌, ℕ, ◌++◌, ◌∷◌, [], List, map, true, false, IfOk, IfNone, IfSome, IsOkUnless, OnOk, Option, Some, None, Err, is_some, option_map, if◌then◌else◌};
 ghost use Rattle.mbe.specs.Bursts as made_by;
 ghost use Rattle.mbe.specs.Macros.{rules_of};
 ghost use Rattle.mbe.specs.Markers.{is_name};
@@ -21,15 +21,17 @@ ghost use Rattle.textual_scope.specs.Keywords.{HasNoKeyword};
 ghost use Rattle.expander_scope.specs.Editions.{IsRead};
 ghost use Rattle.expander_scope.specs.Expanding.{Adds, Expands, answer, around_in, makes_too_many, searched_under, trees_of, world_under};
 ghost use Rattle.expander_model.specs.declared.scope_rules.Standing.TheVariants.{Argument};
-ghost use Rattle.expander_scope.specs.ListsLeft.{IsAhead, Place, standing_in};
+ghost use Rattle.tt_data.specs.Lent.{leaf_lent};
+ghost use Rattle.expander_model.specs.Scoping.{in_group};
+ghost use Rattle.expander_scope.specs.ListsLeft.{IsAhead, Place};
 ghost use Rattle.expander_scope.specs.LocalTables.{AreReadIn, locals_of};
 ghost use Rattle.expander_scope.specs.Outcomes.{find_of, numbered_of_known, parts_for, parts_of};
 ghost use Rattle.expander_scope.specs.Sinks.{TakesMore};
 ghost use Rattle.expander_scope.specs.ScopeTable.{AreRead, expanded_under, scope_in};
-ghost use Rattle.expander_scope.specs.Turns.{BeginsWithGroup, Goes, GoesUnder, IsAt, IsPassable, IsPlainAhead, begun_behind, broken_at, is_bare, kept_left, left_ahead, left_under, local_at, lookups_of, resolved};
+ghost use Rattle.expander_scope.specs.Turns.{BeginsWithGroup, Goes, GoesUnder, IsAt, IsPassable, IsPlainAhead, begun_behind, broken_at, is_bare, kept_left, left_ahead, left_under, local_at, lookups_of, resolved, shown_of};
 
 use crate::event_sink::{EventSink, take_walk};
-use crate::list_walk::{ListWalk, definition_ahead, standing_in};
+use crate::list_walk::{ListWalk, definition_ahead, in_group, is_alone_at};
 use crate::locals::Locals;
 use crate::macro_def::MacroDef;
 use crate::outcome::{Event, NameLookup, Outcome};
@@ -38,6 +40,7 @@ use bridge::parts::TokenEvent;
 use expander_model::begun::Begun;
 use expander_model::call::{Beginning, Call, beginning_of, call_at, call_behind_colons, key_at};
 use expander_model::definition::definition_of;
+use expander_model::dialect::Dialect;
 use expander_model::fault::{FaultKind, is_definition_word};
 use expander_model::scope_rules::{ScopeRules, Standing};
 use expander_model::tree_walk::TreeWalk;
@@ -45,13 +48,10 @@ use mbe::{DeclarativeMacro, FragmentGrammar, MacroCallStyle};
 use std::alloc::{AllocError, Global};
 use std::rc::Rc;
 use tt::{TopSubtree, TtIter};
-use tt_data::{Delimiter, DelimiterKind, Span, Symbol, SyntaxContext, TtFault};
+use tt_data::{Delimiter, DelimiterKind, LeafRef, Span, Symbol, SyntaxContext, TtFault};
 
-// The rules by which a tree is expanded: no caller asks for others yet.
-const RULES: ScopeRules = ScopeRules::TopLevel;
-
-/// What a tree is expanded in: the grammar, the definitions before it, and how many levels of
-/// calls may be expanded.
+/// What a tree is expanded in: the grammar, the definitions before it, the dialect, and how many
+/// levels of calls may be expanded.
 ///
 /// The caller of `expand_into` makes one for each piece. The search makes another for each
 /// result, with a level less.
@@ -62,6 +62,8 @@ pub struct Environment<'a, G> {
     pub grammar: &'a G,
     /// Resolves names.
     pub scope: &'a Scope,
+    /// By which options.
+    pub dialect: Dialect,
     /// How many levels of calls may still be expanded.
     pub depth: u8,
 }
@@ -76,6 +78,7 @@ impl<'a, G> Environment<'a, G> {
             alloc: self.alloc,
             grammar: self.grammar,
             scope: self.scope,
+            dialect: self.dialect,
             depth: self.depth - 1,
         }
     }
@@ -188,11 +191,12 @@ fn answer<G: FragmentGrammar>(
 ) -> Result<Result<TopSubtree, FaultKind>, TtFault>
     ensures given { (edition : Edition) → IsRead edition known.now →
         IfOk result (λ given. trees_of given
-        ≡ answer (numbered_world (world (G.answer env.now.grammar.now) edition))
+        ≡ answer (numbered_world (world (G.answer env.now.grammar.now) edition env.now.dialect))
         (numbered_of_known known.now) env.now.depth argument.now) }
     ensures deep { IfOk result (λ given. OnOk given (0 < env.now.depth)) }
     ensures tokens { (edition : Edition) → IsRead edition known.now → result ≡ Err TtFault.Tokens →
-        makes_too_many (numbered_world (world (G.answer env.now.grammar.now) edition))
+        makes_too_many
+        (numbered_world (world (G.answer env.now.grammar.now) edition env.now.dialect))
         (numbered_of_known known.now) env.now.depth argument.now ≡ true }
 {
     if known.rules.err().is_some() {
@@ -205,11 +209,9 @@ fn answer<G: FragmentGrammar>(
     Ok(result.ok_or(FaultKind::CannotExpand))
 }
 
-// An expansion so far, by which rules, and the definitions of the lists around the present place.
+// An expansion so far, and the definitions of the lists around the present place.
 #[derive(Drop)]
 struct Search<S> {
-    // Which definitions names can find.
-    rules: ScopeRules,
     out: Expanding<S>,
     locals: Locals,
 }
@@ -284,7 +286,6 @@ fn resolve<G, S>(
         ≡ resolved (scope_in env.now.scope.now) (locals_of search.old.locals) trees.now call.now) }
     ensures known { IfOk result (λ given.
         IfSome given (λ k. IsRead env.now.scope.now.edition k.value)) }
-    ensures rules { search.new.rules ≡ search.old.rules }
     ensures locals { search.new.locals ≡ search.old.locals }
     ensures read { AreReadIn env.now.scope.now.edition search.new.locals }
     ensures output { search.new.out.output ≡ search.old.out.output }
@@ -303,14 +304,37 @@ fn resolve<G, S>(
     Ok(look_up(env.scope, &mut search.out.finds, key)?)
 }
 
-// Where the list in a group is, which may be that of a call that stays.
-fn standing_inside(is_argument: bool, kind: DelimiterKind, standing: Standing) -> Standing
-    ensures { result ≡ (if is_argument then Argument else standing_in kind standing) }
+// Where the list in a group is, before which so much came of its piece. It may be that of a call
+// that stays.
+fn standing_inside(
+    is_argument: bool,
+    begun: Begun,
+    kind: DelimiterKind,
+    standing: Standing,
+) -> Standing
+    ensures { result ≡ (if is_argument then Argument else in_group begun kind standing) }
 {
     if is_argument {
         return Standing::Argument;
     }
-    standing_in(kind, standing)
+    in_group(begun, kind, standing)
+}
+
+// Emits a leaf before which so much came of its piece, unless it is a `;` that went with a call.
+#[inline(always)]
+fn show_leaf<S: EventSink>(
+    output: &mut S,
+    leaf: LeafRef<'_>,
+    begun: Begun,
+    outer: Option<Span>,
+) -> Result<(), AllocError>
+    ensures { OnOk result (TakesMore S.has_taken output.old output.new
+        (placed outer (shown_of begun (leaf_lent leaf.entry)))) }
+{
+    if begun.drops(leaf) {
+        return Ok(());
+    }
+    output.take(&TokenEvent::Leaf(leaf), outer)
 }
 
 // Emits the next event, and passes it: a leaf, the opening of a group or its closing. `false` at
@@ -323,25 +347,37 @@ fn pass_event<S: EventSink>(
 ) -> Result<bool, AllocError>
     ensures end { IfOk result (λ more. more ≡ false → (search.new ≡ search.old) × ((p : Place) →
         IsAt walk.old search.old.locals p → (p.here ≡ empty) × (p.groups ≡ []))) }
-    ensures turn { IfOk result (λ more. more ≡ true → (world : World Numbered) (scope : List ℕ →
-        Option Numbered) (depth : ℕ) (edition : Edition) (p : Place) →
-        IsAt walk.old search.old.locals p → IsPassable search.old.rules is_argument p →
-        Goes search.old.rules world scope depth outer edition S.has_taken
-        (left_ahead search.old.rules world scope depth outer is_argument p)
+    ensures turn { IfOk result (λ more. more ≡ true → (dialect : Dialect)
+        (world : World Numbered) (scope : List ℕ → Option Numbered) (depth : ℕ)
+        (edition : Edition) (p : Place) →
+        IsAt walk.old search.old.locals p → IsPassable dialect is_argument p →
+        Goes dialect world scope depth outer edition S.has_taken
+        (left_ahead dialect world scope depth outer is_argument p)
         search.old search.new walk.old walk.new) }
-    ensures rules { search.new.rules ≡ search.old.rules }
 {
     let Some(step) = walk.trees.next()? else {
         return Ok(false);
     };
-    search.out.output.take(&step, outer)?;
     match step {
-        TokenEvent::Leaf(leaf) => walk.begun = walk.begun.with_leaf(leaf),
-        TokenEvent::Opens(kind, _) => {
-            let inside = standing_inside(is_argument, kind, walk.standing);
+        TokenEvent::Leaf(leaf) => {
+            show_leaf(&mut search.out.output, leaf, walk.begun, outer)?;
+            walk.begun = walk.begun.with_leaf(leaf);
+        }
+        TokenEvent::Opens(kind, span) => {
+            search
+                .out
+                .output
+                .take(&TokenEvent::Opens(kind, span), outer)?;
+            let inside = standing_inside(is_argument, walk.begun, kind, walk.standing);
             walk.enter(kind, search.locals.len(), inside)?;
         }
-        TokenEvent::Closes(kind, _) => walk.leave(kind, &mut search.locals),
+        TokenEvent::Closes(kind, span) => {
+            search
+                .out
+                .output
+                .take(&TokenEvent::Closes(kind, span), outer)?;
+            walk.leave(kind, &mut search.locals);
+        }
     }
     Ok(true)
 }
@@ -355,14 +391,14 @@ fn keep_call<'a, S: EventSink>(
     from_group: TtIter<'a>,
 ) -> Result<(), AllocError>
     requires { (passed : Forest) × (walk.old.trees.here ≡ joined passed from_group) }
-    ensures turn { OnOk result ((world : World Numbered) (scope : List ℕ → Option Numbered)
-        (depth : ℕ) (edition : Edition) (p : Place) (before : Forest) →
+    ensures turn { OnOk result ((dialect : Dialect) (world : World Numbered)
+        (scope : List ℕ → Option Numbered) (depth : ℕ) (edition : Edition) (p : Place)
+        (before : Forest) →
         IsAt walk.old search.old.locals p → p.here ≡ joined before from_group.entry →
         BeginsWithGroup from_group.entry →
-        Goes search.old.rules world scope depth outer edition S.has_taken
-        (kept_left search.old.rules world scope depth outer before from_group.entry p)
+        Goes dialect world scope depth outer edition S.has_taken
+        (kept_left dialect world scope depth outer before from_group.entry p)
         search.old search.new walk.old walk.new) }
-    ensures rules { search.new.rules ≡ search.old.rules }
 {
     keep(
         alloc,
@@ -371,7 +407,7 @@ fn keep_call<'a, S: EventSink>(
         &mut walk.trees.here,
         from_group,
     )?;
-    walk.begun = Begun::Other;
+    walk.begun = walk.begun.behind_name();
     let _entered = pass_event(outer, search, walk, true)?;
     Ok(())
 }
@@ -403,7 +439,7 @@ fn show_definition<S: EventSink>(
         (placed outer (if is_left_out standing then [] else walk piece.now))) }
 {
     match standing {
-        Standing::Enclosed => Ok(()),
+        Standing::Enclosed | Standing::Items => Ok(()),
         _ => take_walk(alloc, output, piece, outer),
     }
 }
@@ -417,16 +453,16 @@ fn define<G: FragmentGrammar, S: EventSink>(
     piece: &TtIter<'_>,
 ) -> Result<(), TtFault>
     requires definition { is_some (definition_of piece.now) ≡ true }
-    ensures adds { OnOk result ((rules : ScopeRules) (d : Definition) (locals : List Definition) →
+    ensures adds { OnOk result ((dialect : Dialect) (d : Definition) (locals : List Definition) →
         definition_of piece.now ≡ Some d → Adds S.has_taken search.old.out search.new.out
-        (defined rules (world_under (G.answer env.now.grammar.now) env.now.scope.now) unnumbered
+        (defined dialect
+        (world_under (G.answer env.now.grammar.now) env.now.scope.now env.now.dialect) unnumbered
         (scope_in env.now.scope.now)
         (record { standing = standing; outer = outer; locals = locals }) d).outcome) }
     ensures locals { OnOk result ((d : Definition) → definition_of piece.now ≡ Some d →
         locals_of search.new.locals ≡ d ∷ locals_of search.old.locals) }
     ensures read { OnOk result (AreReadIn env.now.scope.now.edition search.old.locals →
         AreReadIn env.now.scope.now.edition search.new.locals) }
-    ensures rules { search.new.rules ≡ search.old.rules }
     ensures memory { IsOkUnless result Memory }
 {
     let Some(definition) = definition_of(piece) else {
@@ -451,6 +487,7 @@ fn define<G: FragmentGrammar, S: EventSink>(
 
 // The definition with which a piece begins at the present place, and what follows it. `None` in
 // the midst of a piece, and where lists have no definitions.
+#[inline(always)]
 fn piece_ahead<'a>(rules: ScopeRules, walk: &ListWalk<'a>) -> Option<(TtIter<'a>, TtIter<'a>)>
     ensures some { IfSome result (λ found. (walk.now.begun ≡ Begun.Nothing)
         × (rules ≡ ScopeRules.Rust) × IsAhead walk.now.trees.here (Some found)) }
@@ -464,12 +501,13 @@ fn piece_ahead<'a>(rules: ScopeRules, walk: &ListWalk<'a>) -> Option<(TtIter<'a>
     }
 }
 
-// What of a piece came behind a call whose group the trees begin with.
-fn begun_behind(from_group: &TtIter<'_>) -> Begun
-    ensures { result ≡ begun_behind from_group.now }
+// What of a piece came behind a call whose group the trees begin with. `gone` tells that a `;`
+// right behind it goes with it.
+fn begun_behind(gone: bool, begun: Begun, from_group: &TtIter<'_>) -> Begun
+    ensures { result ≡ begun_behind gone begun from_group.now }
 {
     match from_group.first_group() {
-        Some((brackets, _, _)) => Begun::Other.with_group(brackets.kind),
+        Some((brackets, _, _)) => begun.behind_call(gone, brackets.kind),
         None => Begun::Other,
     }
 }
@@ -491,13 +529,12 @@ fn expand_call<'a, G: FragmentGrammar, S: EventSink>(
     requires read { AreRead env.now.scope.now }
     requires locals { AreReadIn env.now.scope.now.edition search.old.locals }
     ensures turn { OnOk result ((p : Place) → IsAt walk.old search.old.locals p →
-        IsPlainAhead search.old.rules p → GoesUnder search.old.rules
-        (G.answer env.now.grammar.now) env.now.scope.now env.now.depth outer S.has_taken p
-        search.old search.new walk.old walk.new) }
-    ensures rules { OnOk result (search.new.rules ≡ search.old.rules) }
+        IsPlainAhead env.now.dialect p →
+        GoesUnder (G.answer env.now.grammar.now) env.now.scope.now env.now.dialect
+        env.now.depth outer S.has_taken p search.old search.new walk.old walk.new) }
     ensures tokens { result ≡ Err TtFault.Tokens → (p : Place) →
-        IsAt walk.old search.old.locals p → IsPlainAhead search.old.rules p →
-        (left_under search.old.rules (G.answer env.now.grammar.now) env.now.scope.now
+        IsAt walk.old search.old.locals p → IsPlainAhead env.now.dialect p →
+        (left_under (G.answer env.now.grammar.now) env.now.scope.now env.now.dialect
         env.now.depth outer p).0.bursts ≡ true }
 {
     let Some(known) = resolve(env, search, &walk.trees.here, &call)? else {
@@ -505,22 +542,19 @@ fn expand_call<'a, G: FragmentGrammar, S: EventSink>(
         return Ok(());
     };
     let at = outer.unwrap_or(call.name.span);
-    walk.begun = begun_behind(&call.from_group);
     match answer(env, known.as_ref(), &call.argument, at)? {
         Ok(result) => {
+            let alone = is_alone_at(env.dialect, walk.begun, walk.standing, &call.from_group);
+            walk.begun = begun_behind(alone, walk.begun, &call.from_group);
             walk.trees.go_on(call.rest);
             let inside = result.token_trees().iter();
             search_list(&env.deeper(), Some(at), search, walk.standing, &inside)
         }
         Err(kind) => {
+            walk.begun = begun_behind(false, walk.begun, &call.from_group);
             push_told(&mut search.out.faults, kind, at)?;
-            keep(
-                env.alloc,
-                outer,
-                &mut search.out,
-                &mut walk.trees.here,
-                call.rest,
-            )?;
+            let here = &mut walk.trees.here;
+            keep(env.alloc, outer, &mut search.out, here, call.rest)?;
             Ok(())
         }
     }
@@ -539,22 +573,21 @@ fn search_list<G: FragmentGrammar, S: EventSink>(
     requires read { AreRead env.now.scope.now }
     requires locals { AreReadIn env.now.scope.now.edition search.old.locals }
     ensures adds { OnOk result (Adds S.has_taken search.old.out search.new.out
-        (searched_under search.old.rules (G.answer env.now.grammar.now) env.now.scope.now
+        (searched_under (G.answer env.now.grammar.now) env.now.scope.now env.now.dialect
         env.now.depth (around_in standing outer search.old.locals) trees.now).outcome) }
     ensures locals { OnOk result (locals_of search.new.locals
-        ≡ (searched_under search.old.rules (G.answer env.now.grammar.now) env.now.scope.now
+        ≡ (searched_under (G.answer env.now.grammar.now) env.now.scope.now env.now.dialect
         env.now.depth (around_in standing outer search.old.locals) trees.now).defines
         ++ locals_of search.old.locals) }
     ensures read { OnOk result (AreReadIn env.now.scope.now.edition search.new.locals) }
-    ensures rules { OnOk result (search.new.rules ≡ search.old.rules) }
     ensures tokens { result ≡ Err TtFault.Tokens →
-        (searched_under search.old.rules (G.answer env.now.grammar.now) env.now.scope.now
+        (searched_under (G.answer env.now.grammar.now) env.now.scope.now env.now.dialect
         env.now.depth (around_in standing outer search.old.locals) trees.now).outcome.bursts
         ≡ true }
 {
     let mut walk = ListWalk::new(env.alloc, trees, standing);
     'turns: loop {
-        if let Some((piece, rest)) = piece_ahead(search.rules, &walk) {
+        if let Some((piece, rest)) = piece_ahead(env.dialect.scope, &walk) {
             define(env, outer, search, walk.standing, &piece)?;
             walk.trees.go_on(rest);
             continue 'turns;
@@ -566,8 +599,8 @@ fn search_list<G: FragmentGrammar, S: EventSink>(
             }
             Beginning::Leaf(leaf, rest) => {
                 walk.trees.go_on(rest);
+                show_leaf(&mut search.out.output, leaf, walk.begun, outer)?;
                 walk.begun = walk.begun.with_leaf(leaf);
-                search.out.output.take(&TokenEvent::Leaf(leaf), outer)?;
             }
             Beginning::Other => {
                 if !pass_event(outer, search, &mut walk, false)? {
@@ -617,8 +650,8 @@ fn unchanged(alloc: Global) -> Outcome
     }
 }
 
-/// Expands a tree in an environment, and hands its events to a sink. A call that fails stays, and
-/// its fault is in the result.
+/// Expands a tree in an environment, by its dialect, and hands its events to a sink. A call that
+/// fails stays, and its fault is in the result.
 ///
 /// # Errors
 ///
@@ -631,14 +664,13 @@ pub fn expand_into<G: FragmentGrammar, S: EventSink>(
 ) -> Result<Expanding<S>, TtFault>
     requires { AreRead env.now.scope.now }
     ensures expands { IfOk result (λ given. Expands S.has_taken sink given
-        (expanded_under (G.answer env.now.grammar.now) env.now.scope.now env.now.depth
-        tree.now.inner)) }
+        (expanded_under (G.answer env.now.grammar.now) env.now.scope.now env.now.dialect
+        env.now.depth tree.now.inner)) }
     ensures tokens { result ≡ Err TtFault.Tokens →
-        (expanded_under (G.answer env.now.grammar.now) env.now.scope.now env.now.depth
-        tree.now.inner).bursts ≡ true }
+        (expanded_under (G.answer env.now.grammar.now) env.now.scope.now env.now.dialect
+        env.now.depth tree.now.inner).bursts ≡ true }
 {
     let mut search = Search {
-        rules: RULES,
         out: Expanding {
             output: sink,
             faults: Vec::new(env.alloc),
@@ -661,14 +693,14 @@ pub fn expand_piece<G: FragmentGrammar>(
 ) -> Result<Outcome, TtFault>
     requires { AreRead env.now.scope.now }
     ensures outcome { IfOk result (λ o. parts_for tree.now.inner o ≡ parts_of
-        (expanded_under (G.answer env.now.grammar.now) env.now.scope.now env.now.depth
-        tree.now.inner)) }
+        (expanded_under (G.answer env.now.grammar.now) env.now.scope.now env.now.dialect
+        env.now.depth tree.now.inner)) }
     ensures tokens { result ≡ Err TtFault.Tokens →
-        (expanded_under (G.answer env.now.grammar.now) env.now.scope.now env.now.depth
-        tree.now.inner).bursts ≡ true }
+        (expanded_under (G.answer env.now.grammar.now) env.now.scope.now env.now.dialect
+        env.now.depth tree.now.inner).bursts ≡ true }
 {
     let alloc = env.alloc;
-    let quiet = is_quiet(alloc, RULES, &tree.iter())?;
+    let quiet = is_quiet(alloc, env.dialect.scope, &tree.iter())?;
     if quiet {
         return Ok(unchanged(alloc));
     }

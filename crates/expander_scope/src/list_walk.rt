@@ -4,12 +4,15 @@ ghost use Rattle.tt_data.specs.declared.edition.Edition.{Edition};
 ghost use Rattle.expander_model.specs.PieceStates.{after_group};
 ghost use Rattle.expander_model.specs.WalkSteps.{groups_of};
 ghost use Rattle.expander_scope.specs.Leaving.{Leaves};
-ghost use Rattle.expander_scope.specs.ListsLeft.{IsAhead, can_begin, standing_in};
+ghost use Rattle.expander_model.specs.Scoping.{in_group, is_items};
+ghost use Rattle.expander_scope.specs.ListsLeft.{IsAhead, can_begin};
+ghost use Rattle.expander_scope.specs.Turns.{is_alone_at};
 ghost use Rattle.expander_scope.specs.LocalTables.{AreReadIn};
 
 use crate::locals::Locals;
 use expander_model::begun::Begun;
 use expander_model::definition::definition_of;
+use expander_model::dialect::Dialect;
 use expander_model::scope_rules::Standing;
 use expander_model::split::next_piece;
 use expander_model::tree_walk::TreeWalk;
@@ -104,13 +107,48 @@ impl<'a> ListWalk<'a> {
     }
 }
 
-/// Where the list in a group of this kind is.
-pub(crate) fn standing_in(kind: DelimiterKind, standing: Standing) -> Standing
-    ensures { result ≡ standing_in kind standing }
+/// Where the list in a group of this kind is, before which so much came of its piece.
+pub(crate) fn in_group(begun: Begun, kind: DelimiterKind, standing: Standing) -> Standing
+    ensures { result ≡ in_group begun kind standing }
+{
+    if kind == DelimiterKind::Invisible || standing == Standing::Argument {
+        return standing;
+    }
+    if begun.holds_items(kind) {
+        Standing::Items
+    } else {
+        Standing::Enclosed
+    }
+}
+
+// Whether a list is one of items.
+fn is_items(standing: Standing) -> bool
+    ensures { result ≡ is_items standing }
 {
     match standing {
-        Standing::Top if kind != DelimiterKind::Invisible => Standing::Enclosed,
-        other => other,
+        Standing::Top | Standing::Items => true,
+        _ => false,
+    }
+}
+
+/// Whether a call whose group these trees begin with stands alone in a list of items, in
+/// parentheses or brackets.
+pub(crate) fn is_alone_at(
+    dialect: Dialect,
+    begun: Begun,
+    standing: Standing,
+    from_group: &TtIter<'_>,
+) -> bool
+    ensures { result ≡ is_alone_at dialect begun standing from_group.now }
+{
+    match from_group.first_group() {
+        Some((brackets, _, _)) => {
+            dialect.items
+                && is_items(standing)
+                && begun.is_at_start()
+                && brackets.kind != DelimiterKind::Brace
+        }
+        None => false,
     }
 }
 

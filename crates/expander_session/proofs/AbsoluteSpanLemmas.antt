@@ -12,6 +12,7 @@ use Rattle.bridge.specs.RelativeSpans.{moved_to, own_place}
 use Rattle.bridge.specs.declared.printing.relative_spans.Place.{Place}
 use Rattle.tt_data.specs.Forest.{Forest}
 use Rattle.tt_data.specs.declared.edition.Edition.{Edition}
+use Rattle.expander_model.specs.declared.dialect.Dialect.{Dialect}
 use Rattle.tt_data.specs.declared.span.TextRange.{TextRange}
 use Rattle.tt_data.specs.declared.span.Span.{Span}
 use Rattle.expander_model.specs.Changes.{fault_with, placed_with}
@@ -93,9 +94,9 @@ module _ (layers : Layers) (start : ℕ) (starts : Offsets) (before : List Met) 
       ∙ sym (map-map (λ x. fault_at x.0 x.1) (fault_with (resolve start before)) o.faults)
 
 -- a definition in places of its own tells what that of the text does
-pub met_faults : (grammar : Grammar) (edition : Edition) → LooksAtNoPlace (world grammar edition) → (place : Place) (k : MacroDef) → IsRead edition k
-    → told_if_broken place.start k ≡ member_faults (layers grammar edition) (present (met (record { place = place; numbered = numbered_of_known k })))
-met_faults grammar edition law place k read =
+pub met_faults : (grammar : Grammar) (edition : Edition) (dialect : Dialect) → LooksAtNoPlace (world grammar edition dialect) → (place : Place) (k : MacroDef) → IsRead edition k
+    → told_if_broken place.start k ≡ member_faults (layers grammar edition dialect) (present (met (record { place = place; numbered = numbered_of_known k })))
+met_faults grammar edition dialect law place k read =
     let d : Definition = (numbered_of_known k).definition in
     let broken : is_some (rules_of k.rules).err ≡ is_some (rules_in edition (definition_with (moved_to place) d)).err =
     ap (λ (r : Rules). is_some r.err) read ∙ law.broken (anchored k.number) d ∙ sym (law.broken (moved_to place) d) in

@@ -4,6 +4,7 @@ use Rattle.std.specs.Prelude.{Result}
 use Rattle.bridge.specs.declared.reading.outcome.ReadFault.{ReadFault}
 use Rattle.tt_data.specs.Forest.{Forest}
 use Rattle.tt_data.specs.declared.edition.Edition.{Edition}
+use Rattle.expander_model.specs.declared.dialect.Dialect.{Dialect}
 use Rattle.mbe.specs.Grammar.{Grammar}
 use Rattle.expander_session.specs.Answers.{AreAnswers, IsAnswer, given, last_looked, last_reads, last_trees, reads_after, text_after}
 use Rattle.expander_session.specs.CommandTurns.{Turn}
@@ -34,10 +35,11 @@ pub record Remembers {G : Type 0} (layers : Layers) (depth : ℕ) (s : State G) 
   pub trees : s.trees ≡ last_trees layers depth reads
   pub given_is : s.given ≡ given layers depth reads
 
--- grammar, edition and depth are these
-pub record IsSet {G : Type 0} (s : State G) (grammar : G) (edition : Edition) (depth : ℕ) : Type 0 where
+-- grammar, edition, dialect and depth are these
+pub record IsSet {G : Type 0} (s : State G) (grammar : G) (edition : Edition) (dialect : Dialect) (depth : ℕ) : Type 0 where
   pub grammar_is : s.grammar ≡ grammar
   pub edition_is : s.edition ≡ edition
+  pub dialect_is : s.dialect ≡ dialect
   pub depth_is : s.depth ≡ depth
 
 -- what a turn gives for a run
@@ -45,7 +47,7 @@ pub record Goes {G : Type 0} (layers : Layers) (depth : ℕ) (old new : State G)
   pub answers : IsAnswer layers depth old.text reads command answer
   pub text : new.text ≡ text_after old.text command answer
   pub remembers : Remembers layers depth new (reads_after old.text reads answer)
-  pub is_set : IsSet new old.grammar old.edition old.depth
+  pub is_set : IsSet new old.grammar old.edition old.dialect old.depth
 
 -- what a turn leaves that reads no text
 pub record Leaves {G : Type 0} (old new : State G) (text_now : List ℕ) : Type 0 where
@@ -54,7 +56,7 @@ pub record Leaves {G : Type 0} (old new : State G) (text_now : List ℕ) : Type 
   pub held : new.held ≡ old.held
   pub trees : new.trees ≡ old.trees
   pub given_is : new.given ≡ old.given
-  pub is_set : IsSet new old.grammar old.edition old.depth
+  pub is_set : IsSet new old.grammar old.edition old.dialect old.depth
 
 leaves : {G : Type 0} → (old new : State G) (text : List ℕ) → new ≡ record old { text = text } → Leaves old new text
 leaves old new text e = record {
@@ -63,7 +65,12 @@ leaves old new text e = record {
   held = ap (λ s. s.held) e;
   trees = ap (λ s. s.trees) e;
   given_is = ap (λ s. s.given) e;
-  is_set = record { grammar_is = ap (λ s. s.grammar) e; edition_is = ap (λ s. s.edition) e; depth_is = ap (λ s. s.depth) e };
+  is_set = record {
+    grammar_is = ap (λ s. s.grammar) e;
+    edition_is = ap (λ s. s.edition) e;
+    dialect_is = ap (λ s. s.dialect) e;
+    depth_is = ap (λ s. s.depth) e;
+  };
 }
 
 still : {G : Type 0} → (layers : Layers) (depth : ℕ) (old new : State G) (text : List ℕ) (reads : List (List ℕ)) → Remembers layers depth old reads
@@ -112,7 +119,7 @@ goes_reply layers old new reads r (Read e) h = record {
         ∙ ap (λ (ps : List Forest). given_in old.given old.trees ps (meaning_after layers old ps)) r.prelude
         ∙ given_same old.given (given layers old.depth reads) r.given_is old.trees (last_trees layers old.depth reads) r.trees (meaning layers old.depth old.text);
   };
-  is_set = record { grammar_is = h.1.grammar; edition_is = h.1.edition; depth_is = h.1.depth };
+  is_set = record { grammar_is = h.1.grammar; edition_is = h.1.edition; dialect_is = h.1.dialect; depth_is = h.1.depth };
 }
 goes_reply layers old new reads r (Unread fault) h =
     goes_on layers old new reads Expand (Replied (Unread fault)) r
@@ -146,22 +153,24 @@ goes layers old new reads Expand BadEdit r h = absurd h
 
 -- ---- turns one after another
 
--- the layers of a session are those of its grammar and edition
-layers_are : {G : Type 0} → (answer : G → Grammar) (s : State G) (grammar : G) (edition : Edition) (depth : ℕ) → IsSet s grammar edition depth
-    → layers_of answer s ≡ layers (answer grammar) edition
-layers_are answer s grammar edition depth is =
-    ap (λ (g : _). layers (answer g) s.edition) is.grammar_is ∙ ap (λ (e : Edition). layers (answer grammar) e) is.edition_is
+-- the layers of a session are those of its grammar, edition and dialect
+layers_are : {G : Type 0} → (answer : G → Grammar) (s : State G) (grammar : G) (edition : Edition) (dialect : Dialect) (depth : ℕ) → IsSet s grammar edition dialect depth
+    → layers_of answer s ≡ layers (answer grammar) edition dialect
+layers_are answer s grammar edition dialect depth is =
+    ap (λ (g : _). layers (answer g) s.edition s.dialect) is.grammar_is
+    ∙ ap (λ (e : Edition). layers (answer grammar) e s.dialect) is.edition_is
+    ∙ ap (λ (d : Dialect). layers (answer grammar) edition d) is.dialect_is
 
 -- a turn, for the layers and the depth that a session was made with
-goes_set : {G : Type 0} → (answer_of : G → Grammar) (old new : State G) (grammar : G) (edition : Edition) (depth : ℕ) (reads : List (List ℕ)) (command : Command) (answer : Answer)
-    → IsSet old grammar edition depth → Remembers (layers (answer_of grammar) edition) depth old reads → Turn (layers_of answer_of old) old new command answer
-    → Goes (layers (answer_of grammar) edition) depth old new reads command answer
-goes_set answer_of old new grammar edition depth reads command answer is r turn =
-    let L : Layers = layers (answer_of grammar) edition in
+goes_set : {G : Type 0} → (answer_of : G → Grammar) (old new : State G) (grammar : G) (edition : Edition) (dialect : Dialect) (depth : ℕ) (reads : List (List ℕ)) (command : Command) (answer : Answer)
+    → IsSet old grammar edition dialect depth → Remembers (layers (answer_of grammar) edition dialect) depth old reads → Turn (layers_of answer_of old) old new command answer
+    → Goes (layers (answer_of grammar) edition dialect) depth old new reads command answer
+goes_set answer_of old new grammar edition dialect depth reads command answer is r turn =
+    let L : Layers = layers (answer_of grammar) edition dialect in
     subst (λ (n : ℕ). Goes L n old new reads command answer) is.depth_is
     (goes L old new reads command answer
     (subst (λ (n : ℕ). Remembers L n old reads) (sym is.depth_is) r)
-    (subst (λ (l : Layers). Turn l old new command answer) (layers_are answer_of old grammar edition depth is) turn))
+    (subst (λ (l : Layers). Turn l old new command answer) (layers_are answer_of old grammar edition dialect depth is) turn))
 
 -- whatever answers the commands that are left makes the answers so far those of all
 pub record Running {G : Type 0} (layers : Layers) (depth : ℕ) (text : List ℕ) (commands : List Command) (s : State G) (rest : List Command) (answers : List Answer) : Type 0 where
@@ -171,20 +180,25 @@ pub record Running {G : Type 0} (layers : Layers) (depth : ℕ) (text : List ℕ
   pub reads_are : (later : List Answer) → last_reads text [] commands (answers ++ later) ≡ last_reads s.text reads rest later
 
 -- where a run stands: the session is set as it was, and its answers are on the way
-pub record Stands {G : Type 0} (answer_of : G → Grammar) (s : State G) (text : List ℕ) (grammar : G) (edition : Edition) (depth : ℕ)
+pub record Stands {G : Type 0} (answer_of : G → Grammar) (s : State G) (text : List ℕ) (grammar : G) (edition : Edition) (dialect : Dialect) (depth : ℕ)
     (commands rest : List Command) (answers : List Answer) : Type 0 where
-  pub is_set : IsSet s grammar edition depth
+  pub is_set : IsSet s grammar edition dialect depth
   pub few : s.given < 2 ^ 32
-  pub run : Running (layers (answer_of grammar) edition) depth text commands s rest answers
+  pub run : Running (layers (answer_of grammar) edition dialect) depth text commands s rest answers
 
-pub occurs_first : {G : Type 0} → (answer_of : G → Grammar) (s : State G) (text : List ℕ) (grammar : G) (edition : Edition) (depth : ℕ)
+pub occurs_first : {G : Type 0} → (answer_of : G → Grammar) (s : State G) (text : List ℕ) (grammar : G) (edition : Edition) (dialect : Dialect) (depth : ℕ)
     (commands rest : List Command) (answers : List Answer)
-    → s ≡ record { text = text; grammar = grammar; edition = edition; depth = depth; prelude = []; held = None; trees = []; given = 0 } → rest ≡ commands → answers ≡ []
-    → Stands answer_of s text grammar edition depth commands rest answers
-occurs_first answer_of s text grammar edition depth commands rest answers is all none =
-    let L : Layers = layers (answer_of grammar) edition in
+    → s ≡ record { text = text; grammar = grammar; edition = edition; dialect = dialect; depth = depth; prelude = []; held = None; trees = []; given = 0 } → rest ≡ commands → answers ≡ []
+    → Stands answer_of s text grammar edition dialect depth commands rest answers
+occurs_first answer_of s text grammar edition dialect depth commands rest answers is all none =
+    let L : Layers = layers (answer_of grammar) edition dialect in
     record {
-      is_set = record { grammar_is = ap (λ s. s.grammar) is; edition_is = ap (λ s. s.edition) is; depth_is = ap (λ s. s.depth) is };
+      is_set = record {
+        grammar_is = ap (λ s. s.grammar) is;
+        edition_is = ap (λ s. s.edition) is;
+        dialect_is = ap (λ s. s.dialect) is;
+        depth_is = ap (λ s. s.depth) is;
+      };
       few = omega (arith, ap (λ s. s.given) is);
       run = record {
         reads = [];
@@ -203,20 +217,21 @@ occurs_first answer_of s text grammar edition depth commands rest answers is all
       };
     }
 
-pub stands_next : {G : Type 0} → (answer_of : G → Grammar) (old new : State G) (text : List ℕ) (grammar : G) (edition : Edition) (depth : ℕ)
+pub stands_next : {G : Type 0} → (answer_of : G → Grammar) (old new : State G) (text : List ℕ) (grammar : G) (edition : Edition) (dialect : Dialect) (depth : ℕ)
     (commands rest after : List Command) (command : Command) (answer : Answer) (answers answers' : List Answer)
     → rest ≡ command ∷ after → answers' ≡ answers ++ answer ∷ [] → Turn (layers_of answer_of old) old new command answer → (old.given < 2 ^ 32 → new.given < 2 ^ 32)
-    → Stands answer_of old text grammar edition depth commands rest answers → Stands answer_of new text grammar edition depth commands after answers'
-stands_next answer_of old new text grammar edition depth commands rest after command answer answers answers' first pushed turn few st =
-    let is : IsSet old grammar edition depth = st.is_set in
+    → Stands answer_of old text grammar edition dialect depth commands rest answers → Stands answer_of new text grammar edition dialect depth commands after answers'
+stands_next answer_of old new text grammar edition dialect depth commands rest after command answer answers answers' first pushed turn few st =
+    let is : IsSet old grammar edition dialect depth = st.is_set in
     let reads : List (List ℕ) = st.run.reads in
-    let L : Layers = layers (answer_of grammar) edition in
-    let g : Goes L depth old new reads command answer = goes_set answer_of old new grammar edition depth reads command answer is st.run.remembers turn in
+    let L : Layers = layers (answer_of grammar) edition dialect in
+    let g : Goes L depth old new reads command answer = goes_set answer_of old new grammar edition dialect depth reads command answer is st.run.remembers turn in
     let next : List (List ℕ) = reads_after old.text reads answer in
     record {
       is_set = record {
         grammar_is = g.is_set.grammar_is ∙ is.grammar_is;
         edition_is = g.is_set.edition_is ∙ is.edition_is;
+        dialect_is = g.is_set.dialect_is ∙ is.dialect_is;
         depth_is = g.is_set.depth_is ∙ is.depth_is;
       };
       few = few st.few;
@@ -237,20 +252,20 @@ stands_next answer_of old new text grammar edition depth commands rest after com
       };
     }
 
-pub stands_last : {G : Type 0} → (answer_of : G → Grammar) (s : State G) (text : List ℕ) (grammar : G) (edition : Edition) (depth : ℕ)
+pub stands_last : {G : Type 0} → (answer_of : G → Grammar) (s : State G) (text : List ℕ) (grammar : G) (edition : Edition) (dialect : Dialect) (depth : ℕ)
     (commands rest : List Command) (answers : List Answer)
-    → rest ≡ [] → Stands answer_of s text grammar edition depth commands rest answers → AreAnswers (layers (answer_of grammar) edition) depth text [] commands answers
-stands_last answer_of s text grammar edition depth commands rest answers none st =
-    let L : Layers = layers (answer_of grammar) edition in
+    → rest ≡ [] → Stands answer_of s text grammar edition dialect depth commands rest answers → AreAnswers (layers (answer_of grammar) edition dialect) depth text [] commands answers
+stands_last answer_of s text grammar edition dialect depth commands rest answers none st =
+    let L : Layers = layers (answer_of grammar) edition dialect in
     subst (λ (xs : List Answer). AreAnswers L depth text [] commands xs) (append-nil answers)
     (st.run.more [] (subst (λ (cs : List Command). AreAnswers L depth s.text st.run.reads cs []) (sym none) tt))
 
-pub stands_few : {G : Type 0} → (answer_of : G → Grammar) (s : State G) (text : List ℕ) (grammar : G) (edition : Edition) (depth : ℕ)
+pub stands_few : {G : Type 0} → (answer_of : G → Grammar) (s : State G) (text : List ℕ) (grammar : G) (edition : Edition) (dialect : Dialect) (depth : ℕ)
     (commands rest : List Command) (answers : List Answer)
-    → rest ≡ [] → Stands answer_of s text grammar edition depth commands rest answers
-    → given (layers (answer_of grammar) edition) depth (last_reads text [] commands answers) < 2 ^ 32
-stands_few answer_of s text grammar edition depth commands rest answers none st =
-    let L : Layers = layers (answer_of grammar) edition in
+    → rest ≡ [] → Stands answer_of s text grammar edition dialect depth commands rest answers
+    → given (layers (answer_of grammar) edition dialect) depth (last_reads text [] commands answers) < 2 ^ 32
+stands_few answer_of s text grammar edition dialect depth commands rest answers none st =
+    let L : Layers = layers (answer_of grammar) edition dialect in
     let reads_are : last_reads text [] commands answers ≡ st.run.reads =
     ap (λ (xs : List Answer). last_reads text [] commands xs) (sym (append-nil answers))
     ∙ st.run.reads_are []

@@ -19,6 +19,7 @@ use Rattle.tt_data.proofs.ForestLemmas.{walk-joined}
 use Rattle.tt_data.specs.Forest.{Forest, empty, leaf, group}
 use Rattle.tt_data.specs.Walk.{Step, at_leaf, closes, walk}
 use Rattle.tt_data.specs.declared.edition.Edition.{Edition}
+use Rattle.expander_model.specs.declared.dialect.Dialect.{Dialect}
 use Rattle.tt_data.specs.declared.leaf.LitKind.{LitKind}
 use Rattle.expander_model.specs.EqualTrees.{same_forest}
 use Rattle.expander_model.specs.Definitions.{Definition, definition_of}
@@ -190,8 +191,8 @@ pub record TokenLaws : Type 0 where
   pub positive : (text : List ℕ) → IsUtf8 text → All (λ (t : Token). 1 ≤ t.len) (tokens_of (chars text))
   pub whole : (text : List ℕ) → IsUtf8 text → sum_by (λ (t : Token). t.len) (tokens_of (chars text)) ≡ length text
 
-module _ (laws : TokenLaws) (grammar : Grammar) (edition : Edition) (depth : ℕ) (initial : List Definition) (text : List ℕ) (utf8 : IsUtf8 text) where
-  few_read : (r : Result Forest ReadFault) → text_reading text ≡ r → length (definitions_in (meaning_over (layers grammar edition) depth initial r)) ≤ length text
+module _ (laws : TokenLaws) (grammar : Grammar) (edition : Edition) (dialect : Dialect) (depth : ℕ) (initial : List Definition) (text : List ℕ) (utf8 : IsUtf8 text) where
+  few_read : (r : Result Forest ReadFault) → text_reading text ≡ r → length (definitions_in (meaning_over (layers grammar edition dialect) depth initial r)) ≤ length text
   few_read (Err fault) is = omega arith
   few_read (Ok f) is =
       let ts : List Token = tokens_of (chars text) in
@@ -199,22 +200,22 @@ module _ (laws : TokenLaws) (grammar : Grammar) (edition : Edition) (depth : ℕ
       omega (
         arith,
         read,
-        few_definitions (layers grammar edition) depth initial f,
+        few_definitions (layers grammar edition dialect) depth initial f,
         few_words 0 text ts,
         few_tokens ts (laws.positive text utf8),
         laws.whole text utf8,
       )
 
   -- a text has at most as many definitions as bytes
-  pub definitions_in_bytes : length (definitions_in (meaning_in (layers grammar edition) depth initial text)) ≤ length text
+  pub definitions_in_bytes : length (definitions_in (meaning_in (layers grammar edition dialect) depth initial text)) ≤ length text
   definitions_in_bytes = few_read (text_reading text) refl
 
 -- so there are numbers for all of them where none was given before
-pub numbers_suffice : TokenLaws → (grammar : Grammar) (edition : Edition) (depth : ℕ) (text : List ℕ) → IsUtf8 text → length text < 2 ^ 32
-    → NeedsNumbers 0 [] (meaning (layers grammar edition) depth text) → ⊥
-numbers_suffice laws grammar edition depth text utf8 short many =
-    let all : List Forest = definitions_in (meaning (layers grammar edition) depth text) in
-    omega (arith, short, many, definitions_in_bytes laws grammar edition depth [] text utf8, few_needed [] all)
+pub numbers_suffice : TokenLaws → (grammar : Grammar) (edition : Edition) (dialect : Dialect) (depth : ℕ) (text : List ℕ) → IsUtf8 text → length text < 2 ^ 32
+    → NeedsNumbers 0 [] (meaning (layers grammar edition dialect) depth text) → ⊥
+numbers_suffice laws grammar edition dialect depth text utf8 short many =
+    let all : List Forest = definitions_in (meaning (layers grammar edition dialect) depth text) in
+    omega (arith, short, many, definitions_in_bytes laws grammar edition dialect depth [] text utf8, few_needed [] all)
 
 few_trees : (ps : List Forest) → length (definition_trees ps) ≤ length ps
 few_trees [] = omega arith
@@ -226,8 +227,8 @@ few_trees (p ∷ ps) =
     or_shorter false t ts n h = omega (arith, h)
 
 -- nor does a session lack any that gave none before
-pub first_has_numbers : ((grammar : Grammar) (edition : Edition) (depth : ℕ) (initial : List Definition) (text : List ℕ) → IsUtf8 text
-    → length (definitions_in (meaning_in (layers grammar edition) depth initial text)) ≤ length text)
+pub first_has_numbers : ((grammar : Grammar) (edition : Edition) (dialect : Dialect) (depth : ℕ) (initial : List Definition) (text : List ℕ) → IsUtf8 text
+    → length (definitions_in (meaning_in (layers grammar edition dialect) depth initial text)) ≤ length text)
     → {G : Type 0} (answer : G → Grammar) (s : State G) → IsUtf8 s.text → length s.prelude + length s.text < 2 ^ 32 → s.given ≡ 0 → s.trees ≡ []
     → HasCause (layers_of answer s) s Numbers → ⊥
 first_has_numbers few answer s utf8 short none no_trees many =
@@ -242,5 +243,5 @@ first_has_numbers few answer s utf8 short none no_trees many =
       few_needed [] all,
       length-append (definition_trees s.prelude) (definitions_in m),
       few_trees s.prelude,
-      few (answer s.grammar) s.edition s.depth (definitions_of s.prelude) s.text utf8,
+      few (answer s.grammar) s.edition s.dialect s.depth (definitions_of s.prelude) s.text utf8,
     )

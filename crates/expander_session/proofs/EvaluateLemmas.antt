@@ -1,5 +1,5 @@
 -- One tree, evaluated over a cache.
-use Rattle.std.proofs.Common.{◌≡◌, ◌↔◌, ℕ, zero, suc, Bool, true, List, [], ◌∷◌, map, Option, Some, None, refl, ap, sym, subst, ◌∙◌, Global}
+use Rattle.std.proofs.Common.{◌≡◌, ◌↔◌, ℕ, zero, suc, Bool, true, List, [], ◌∷◌, map, Option, Some, refl, ap, sym, subst, ◌∙◌, Global}
 use Rattle.std.specs.Prelude.{◌&&◌, ◌||◌, All, IfSome, slice_get}
 use Rattle.std.specs.List.{list_any}
 use Rattle.std.specs.Rc.{rc_value}
@@ -12,8 +12,9 @@ use Rattle.tt_data.specs.Forest.{Forest}
 use Rattle.expander_model.specs.HashedTrees.{own_top}
 use Rattle.expander_model.specs.EqualTrees.{same_forest, same_top}
 use Rattle.expander_model.specs.Definitions.{Definition}
-use Rattle.expander_model.specs.Expansion.{Outcome, World, expansion}
-use Rattle.expander_model.specs.Held.{IsMet, Met, Numbered, numbered_scope, numbered_world}
+use Rattle.expander_model.specs.Expansion.{Outcome, World}
+use Rattle.expander_model.specs.Held.{IsMet, Met, Numbered, numbered_scope, numbered_world, unnumbered}
+use Rattle.expander_model.specs.Scoping.{expanded}
 use Rattle.expander_session.specs.Caches.{IsRight, piece_of}
 use Rattle.expander_scope.specs.DefinitionIds.{AreNumbers, numbered_by}
 use Rattle.expander_session.specs.CachedOutputs.{Holds}
@@ -58,7 +59,7 @@ module _ (world : World Definition) (depth : ℕ) (old : Forest → Option ℕ) 
     pub matched_parts : (given : ℕ) (now : Forest → Option ℕ) → AreNumbers given now → ((t : Forest) (n : ℕ) → old t ≡ Some n → now t ≡ Some n)
         → (scope : List ℕ → Option Numbered) (before : List Met) → scope ≡ numbered_scope before → All (IsMet (numbered_by now)) before
         → (t : Top) (q : Memo) → t.delimiter ≡ text_top → IsRight world depth old q → is_match scope t q ≡ true
-        → Holds q (parts_of (expansion (numbered_world world) scope depth None t.inner))
+        → Holds q (parts_of (expanded (numbered_world world) unnumbered scope depth t.inner))
     matched_parts given now are more scope before scope_is met t q is right e =
         let piece : HeldPiece = piece_of world depth q in
         let held : IsHeld world depth (numbered_by now) piece =
@@ -66,9 +67,9 @@ module _ (world : World Definition) (depth : ℕ) (old : Forest → Option ℕ) 
         (more_held world depth (numbered_by old) (numbered_by now) more (piece ∷ []) (All-cons (IsHeld world depth (numbered_by old)) piece [] right.held (All-nil (IsHeld world depth (numbered_by old))))) in
         let matching : matches (numbered_scope before) t.inner piece ≡ true =
         ap (λ (s : List ℕ → Option Numbered). matches s t.inner piece) (sym scope_is) ∙ sym (matches_is scope t q is right) ∙ e in
-        let outcome : piece.outcome ≡ expansion (numbered_world world) (numbered_scope before) depth None t.inner =
+        let outcome : piece.outcome ≡ expanded (numbered_world world) unnumbered (numbered_scope before) depth t.inner =
         match_is equal world depth (numbered_by now) (numbers_tell given now are) (numbered_scope before) (met_scope equal (numbered_by now) before met) t.inner piece held matching in
-        subst (λ (s : List ℕ → Option Numbered). Holds q (parts_of (expansion (numbered_world world) s depth None t.inner))) (sym scope_is)
+        subst (λ (s : List ℕ → Option Numbered). Holds q (parts_of (expanded (numbered_world world) unnumbered s depth t.inner))) (sym scope_is)
         (subst (λ (o : Outcome Numbered). Holds q (parts_of o)) outcome right.parts)
 
     -- one that is found to match among such pieces has what an expansion gives
@@ -76,7 +77,7 @@ module _ (world : World Definition) (depth : ℕ) (old : Forest → Option ℕ) 
         → (scope : List ℕ → Option Numbered) (before : List Met) → scope ≡ numbered_scope before → All (IsMet (numbered_by now)) before
         → (t : Top) → t.delimiter ≡ text_top → (qs : List (Rc Memo Global)) → All (λ x. IsRight world depth old (rc_value x)) qs
         → (i : ℕ) (q : Rc Memo Global) → slice_get qs i ≡ Some q → IfSome (slice_get qs i) (λ x. is_match scope t (rc_value x) ≡ true)
-        → Holds (rc_value q) (parts_of (expansion (numbered_world world) scope depth None t.inner))
+        → Holds (rc_value q) (parts_of (expanded (numbered_world world) unnumbered scope depth t.inner))
     found_parts given now are more scope before scope_is met t is qs rights i q stands found =
         matched_parts given now are more scope before scope_is met t (rc_value q) is
         (all_at (λ x. IsRight world depth old (rc_value x)) qs i q rights stands)

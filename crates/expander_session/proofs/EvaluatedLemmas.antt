@@ -7,6 +7,7 @@ use Rattle.bridge.specs.TokenSteps.{text_reading}
 use Rattle.mbe.specs.Grammar.{Grammar}
 use Rattle.tt_data.specs.Forest.{Forest}
 use Rattle.tt_data.specs.declared.edition.Edition.{Edition}
+use Rattle.expander_model.specs.declared.dialect.Dialect.{Dialect}
 use Rattle.expander_session.specs.Count.{expanded_count, looked_of}
 use Rattle.expander_model.specs.EqualTrees.{same_forest}
 use Rattle.expander_model.specs.Definitions.{Definition, definition_of, or_else}
@@ -87,21 +88,21 @@ back_all : {X : Type 0} → (P : X → Type 0) (xs ys : List X) → All P (xs ++
 back_all P [] ys h = h
 back_all P (x ∷ xs) ys h = back_all P xs ys (All-tail P x (xs ++ ys) h)
 
-module _ (laws : TurnLaws) (grammar : Grammar) (edition : Edition) (depth : ℕ) (prelude : List Forest) (stands : All Stands prelude)
+module _ (laws : TurnLaws) (grammar : Grammar) (edition : Edition) (dialect : Dialect) (depth : ℕ) (prelude : List Forest) (stands : All Stands prelude)
     (text : List ℕ) (f : Forest) (is_text : IsUtf8 text) (read : text_reading text ≡ Ok f)
     (old_given : ℕ) (old : Forest → Option ℕ) (known : List Forest) (given : ℕ) (now : Forest → Option ℕ)
     (are : AreNumbered old_given old known (definition_trees prelude ++ definition_trees (pieces f)) given now)
-    (held : List HeldPiece) (right : All (IsHeld (world grammar edition) depth (numbered_by old)) held) where
+    (held : List HeldPiece) (right : All (IsHeld (world grammar edition dialect) depth (numbered_by old)) held) where
   -- the numbers of both texts
   abbrev both : Forest → ℕ → Type 0
   both = numbered_by (by_either now old)
 
   abbrev news : List Kept
-  news = kept_in grammar edition depth now prelude (pieces f)
+  news = kept_in grammar edition dialect depth now prelude (pieces f)
 
   -- the definitions of the prelude
   abbrev before : List Met
-  before = mets_after (world grammar edition) depth (number_by now) [] prelude
+  before = mets_after (world grammar edition dialect) depth (number_by now) [] prelude
 
   now_has : (t : Forest) (n : ℕ) → now t ≡ Some n → both t n
   now_has t n e = ap (λ o. or_else o (old t)) e
@@ -146,44 +147,44 @@ module _ (laws : TurnLaws) (grammar : Grammar) (edition : Edition) (depth : ℕ)
 
   before_both : All (StandsInText both) before
   before_both =
-      mets_stand laws.equal (world grammar edition) depth both (number_by now) [] (All-nil (StandsInText both)) prelude stands
+      mets_stand laws.equal (world grammar edition dialect) depth both (number_by now) [] (All-nil (StandsInText both)) prelude stands
       (front_all (HasNumber both (number_by now)) prelude (pieces f) all_both)
 
   before_now : All (StandsInText (numbered_by now)) before
   before_now =
-      mets_stand laws.equal (world grammar edition) depth (numbered_by now) (number_by now) [] (All-nil (StandsInText (numbered_by now))) prelude stands
+      mets_stand laws.equal (world grammar edition dialect) depth (numbered_by now) (number_by now) [] (All-nil (StandsInText (numbered_by now))) prelude stands
       (front_all (HasNumber (numbered_by now) (number_by now)) prelude (pieces f) all_now)
 
-  right_both : All (IsHeld (world grammar edition) depth both) held
-  right_both = more_held (world grammar edition) depth (numbered_by old) both old_has held right
+  right_both : All (IsHeld (world grammar edition dialect) depth both) held
+  right_both = more_held (world grammar edition dialect) depth (numbered_by old) both old_has held right
 
   -- the pieces of the text, in places of their own
-  pub taken_members : members_in (layers grammar edition) depth (definitions_after [] prelude) f ≡ map present news
+  pub taken_members : members_in (layers grammar edition dialect) depth (definitions_after [] prelude) f ≡ map present news
   taken_members =
-      ap (λ (ds : List Definition). members_after (layers grammar edition) depth ds (pieces f))
-      (definitions_present (world grammar edition) depth (number_by now) [] prelude stands)
-      ∙ members_present (layers grammar edition) (world_at_other_places laws.rules grammar edition) (numbered_by now) tell_now (number_by now) depth before
+      ap (λ (ds : List Definition). members_after (layers grammar edition dialect) depth ds (pieces f))
+      (definitions_present (world grammar edition dialect) depth (number_by now) [] prelude stands)
+      ∙ members_present (layers grammar edition dialect) (world_at_other_places laws.rules grammar edition dialect) (numbered_by now) tell_now (number_by now) depth before
       (mets (numbered_by now) before before_now) (pieces f) stand have_now
 
-  kept_both : All (IsKept (world grammar edition) depth both) news
+  kept_both : All (IsKept (world grammar edition dialect) depth both) news
   kept_both =
-      kept_are laws.equal (world grammar edition) depth both (number_by now) before before_both (pieces f) (are_pieces both (number_by now) (pieces f) stand have_both)
+      kept_are laws.equal (world grammar edition dialect) depth both (number_by now) before before_both (pieces f) (are_pieces both (number_by now) (pieces f) stand have_both)
 
-  kept_now : All (IsKept (world grammar edition) depth (numbered_by now)) news
+  kept_now : All (IsKept (world grammar edition dialect) depth (numbered_by now)) news
   kept_now =
-      kept_are laws.equal (world grammar edition) depth (numbered_by now) (number_by now) before before_now (pieces f)
+      kept_are laws.equal (world grammar edition dialect) depth (numbered_by now) (number_by now) before before_now (pieces f)
       (are_pieces (numbered_by now) (number_by now) (pieces f) stand have_now)
 
   -- as many count as nothing held matches
-  pub taken_count : expanded_count (Some (map looked_held held)) (looked_of (members_in (layers grammar edition) depth (definitions_after [] prelude) f)) ≡ length (filter (is_unmatched held) news)
+  pub taken_count : expanded_count (Some (map looked_held held)) (looked_of (members_in (layers grammar edition dialect) depth (definitions_after [] prelude) f)) ≡ length (filter (is_unmatched held) news)
   taken_count =
       ap (λ (ms : List Member). expanded_count (Some (map looked_held held)) (looked_of ms)) taken_members
-      ∙ count_is laws.equal (world grammar edition) depth both tell_both held right_both news kept_both
+      ∙ count_is laws.equal (world grammar edition dialect) depth both tell_both held right_both news kept_both
 
   -- what is held afterwards is right by the numbers of this text alone
-  pub taken_held : All (IsHeld (world grammar edition) depth (numbered_by now)) (filter_map held_of news)
-  taken_held = held_are laws.equal (world grammar edition) depth (numbered_by now) news kept_now
+  pub taken_held : All (IsHeld (world grammar edition dialect) depth (numbered_by now)) (filter_map held_of news)
+  taken_held = held_are laws.equal (world grammar edition dialect) depth (numbered_by now) news kept_now
 
   -- and it is what the count sees of the text
-  pub taken_looked : looked_of (members_in (layers grammar edition) depth (definitions_after [] prelude) f) ≡ map looked_held (filter_map held_of news)
-  taken_looked = ap looked_of taken_members ∙ looked_are_held laws.equal (world grammar edition) depth (numbered_by now) tell_now news kept_now
+  pub taken_looked : looked_of (members_in (layers grammar edition dialect) depth (definitions_after [] prelude) f) ≡ map looked_held (filter_map held_of news)
+  taken_looked = ap looked_of taken_members ∙ looked_are_held laws.equal (world grammar edition dialect) depth (numbered_by now) tell_now news kept_now

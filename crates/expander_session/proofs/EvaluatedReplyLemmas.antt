@@ -7,6 +7,7 @@ use Rattle.bridge.specs.declared.reading.outcome.ReadFault.{ReadFault}
 use Rattle.mbe.specs.Grammar.{Grammar}
 use Rattle.tt_data.specs.Forest.{Forest}
 use Rattle.tt_data.specs.declared.edition.Edition.{Edition}
+use Rattle.expander_model.specs.declared.dialect.Dialect.{Dialect}
 use Rattle.expander_session.specs.Count.{Looked, expanded_count, looked_of}
 use Rattle.expander_model.specs.EqualTrees.{same_forest}
 use Rattle.expander_session.specs.EvaluatedTexts.{kept_in}
@@ -36,9 +37,9 @@ same_earlier None now = refl
 same_earlier (Some held) now = refl
 
 -- what was held, and is right by its numbers
-pub record Had {G : Type 0} (grammar : Grammar) (edition : Edition) (s : State G) (numbers : Forest → Option ℕ) (held : Option (List HeldPiece)) : Type 0 where
+pub record Had {G : Type 0} (grammar : Grammar) (edition : Edition) (dialect : Dialect) (s : State G) (numbers : Forest → Option ℕ) (held : Option (List HeldPiece)) : Type 0 where
   pub view : s.held ≡ option_map (map looked_held) held
-  pub right : All (IsHeld (world grammar edition) s.depth (numbered_by numbers)) (unwrap_or held [])
+  pub right : All (IsHeld (world grammar edition dialect) s.depth (numbered_by numbers)) (unwrap_or held [])
 
 -- what is shown of a text
 pub record ShowsText (layers : Layers) (ms : List Member) (count : ℕ) (e : Expanded) : Type 0 where
@@ -54,12 +55,13 @@ pub record KeepsSetting {G : Type 0} (old new : State G) : Type 0 where
   pub text : new.text ≡ old.text
   pub grammar : new.grammar ≡ old.grammar
   pub edition : new.edition ≡ old.edition
+  pub dialect : new.dialect ≡ old.dialect
   pub depth : new.depth ≡ old.depth
   pub prelude : new.prelude ≡ old.prelude
 
-module _ {G : Type 0} (grammar : Grammar) (edition : Edition) (s : State G) (f : Forest) (read : text_reading s.text ≡ Ok f) where
+module _ {G : Type 0} (grammar : Grammar) (edition : Edition) (dialect : Dialect) (s : State G) (f : Forest) (read : text_reading s.text ≡ Ok f) where
   abbrev L : Layers
-  L = layers grammar edition
+  L = layers grammar edition dialect
 
   -- the members of the text after the prelude
   abbrev ms : List Member
@@ -84,9 +86,9 @@ module _ {G : Type 0} (grammar : Grammar) (edition : Edition) (s : State G) (f :
       subst (λ (ts : List Forest). 2 ^ 32 ≤ s.given + needed s.trees ts) (sym are ∙ trees_are) all
 
   module _ (laws : TurnLaws) (stands : All Stands s.prelude) (is_text : IsUtf8 s.text) (old : Forest → Option ℕ) (given : ℕ) (now : Forest → Option ℕ)
-      (are : AreNumbered s.given old s.trees (definition_trees s.prelude ++ definition_trees (pieces f)) given now) (held : Option (List HeldPiece)) (had : Had grammar edition s old held) where
+      (are : AreNumbered s.given old s.trees (definition_trees s.prelude ++ definition_trees (pieces f)) given now) (held : Option (List HeldPiece)) (had : Had grammar edition dialect s old held) where
     abbrev news : List Kept
-    news = kept_in grammar edition s.depth now s.prelude (pieces f)
+    news = kept_in grammar edition dialect s.depth now s.prelude (pieces f)
 
     pub taken_reply : (new : State G) (e : Expanded) → ShowsText L ms (length (filter (is_unmatched (unwrap_or held [])) news)) e → KeepsSetting s new
         → new.held ≡ Some (map looked_held (filter_map held_of news)) → new.trees ≡ definition_trees s.prelude ++ definition_trees (pieces f) → new.given ≡ given
@@ -100,7 +102,7 @@ module _ {G : Type 0} (grammar : Grammar) (edition : Edition) (s : State G) (f :
             texts = shows.texts;
             ranges = shows.ranges;
             expanded = shows.expanded
-                ∙ sym (taken_count laws grammar edition s.depth s.prelude stands s.text f is_text read s.given old s.trees given now are (unwrap_or held []) had.right)
+                ∙ sym (taken_count laws grammar edition dialect s.depth s.prelude stands s.text f is_text read s.given old s.trees given now are (unwrap_or held []) had.right)
                 ∙ same_earlier held (looked_of ms)
                 ∙ ap (λ (o : Option (List Looked)). expanded_count o (looked_of ms)) (sym had.view);
           }),
@@ -108,10 +110,11 @@ module _ {G : Type 0} (grammar : Grammar) (edition : Edition) (s : State G) (f :
         text = keeps.text;
         grammar = keeps.grammar;
         edition = keeps.edition;
+        dialect = keeps.dialect;
         depth = keeps.depth;
         prelude = keeps.prelude;
         held = holds
-            ∙ ap Some (sym (taken_looked laws grammar edition s.depth s.prelude stands s.text f is_text read s.given old s.trees given now are (unwrap_or held []) had.right))
+            ∙ ap Some (sym (taken_looked laws grammar edition dialect s.depth s.prelude stands s.text f is_text read s.given old s.trees given now are (unwrap_or held []) had.right))
             ∙ ap (λ (m : Result ReadMeaning ReadFault). Some (looked_in m)) (sym means);
         trees = trees ∙ trees_are;
         given = gives ∙ are.given_is ∙ ap (λ (ts : List Forest). s.given + needed s.trees ts) trees_are;

@@ -6,6 +6,7 @@ use Rattle.tt.specs.Tops.{Top}
 use Rattle.mbe.specs.Grammar.{Grammar}
 use Rattle.tt_data.specs.Forest.{Forest}
 use Rattle.tt_data.specs.declared.edition.Edition.{Edition}
+use Rattle.expander_model.specs.declared.dialect.Dialect.{Dialect}
 use Rattle.expander_model.specs.DefinitionTrees.{definition_trees}
 use Rattle.expander_model.specs.Definitions.{Definition, definition_of}
 use Rattle.expander_model.specs.Expansion.{World}
@@ -109,13 +110,13 @@ module _ (w : World Definition) (depth : ℕ) where
         (same_met before p (all_before (IsMet (numbered_by N)) (number_by N) now ps h))
         ∙ mets_stay now ps h
 
-module _ (grammar : Grammar) (edition : Edition) (depth : ℕ) (old : Cache) where
+module _ (grammar : Grammar) (edition : Edition) (dialect : Dialect) (depth : ℕ) (old : Cache) where
   abbrev W : World Definition
-  W = world grammar edition
+  W = world grammar edition dialect
 
   -- one more definition
-  pub one_more : (done : List Forest) (piece : Forest) (now next : Evaluation) → HasImported grammar edition depth old done now
-      → Grows now.taken next.taken → Imports grammar edition depth old piece now next → HasImported grammar edition depth old (done ++ piece ∷ []) next
+  pub one_more : (done : List Forest) (piece : Forest) (now next : Evaluation) → HasImported grammar edition dialect depth old done now
+      → Grows now.taken next.taken → Imports grammar edition dialect depth old piece now next → HasImported grammar edition dialect depth old (done ++ piece ∷ []) next
   one_more done piece now next has grows imports =
       let N : Forest → Option ℕ = numbers_in now.taken.numbers.by_tree in
       let M : Forest → Option ℕ = numbers_in next.taken.numbers.by_tree in
@@ -123,8 +124,8 @@ module _ (grammar : Grammar) (edition : Edition) (depth : ℕ) (old : Cache) whe
       let mets : with_met W depth (number_by M) piece (definition_of (relative piece)) before ≡ mets_after W depth (number_by M) [] (done ++ piece ∷ []) =
       ap (with_met W depth (number_by M) piece (definition_of (relative piece))) (sym (mets_stay W depth N M grows [] done has.known))
       ∙ sym (mets_append W depth (number_by M) [] done (piece ∷ [])) in
-      subst (λ (ms : List Met). HasTaken W edition depth old (layers grammar edition) ms (definition_trees (done ++ piece ∷ [])) [] next) mets
-      (subst (λ (ts : List Forest). HasTaken W edition depth old (layers grammar edition) (with_met W depth (number_by M) piece (definition_of (relative piece)) before) ts [] next)
+      subst (λ (ms : List Met). HasTaken W edition depth old (layers grammar edition dialect) ms (definition_trees (done ++ piece ∷ [])) [] next) mets
+      (subst (λ (ts : List Forest). HasTaken W edition depth old (layers grammar edition dialect) (with_met W depth (number_by M) piece (definition_of (relative piece)) before) ts [] next)
       (sym (trees_append done (piece ∷ []))) (imports before (definition_trees done) [] has))
 
   -- too few ids

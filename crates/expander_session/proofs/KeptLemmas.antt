@@ -6,6 +6,7 @@ use Rattle.std.proofs.lemmas.List.Elements.{All-cons, All-head, All-nil, All-tai
 use Rattle.mbe.specs.Grammar.{Grammar}
 use Rattle.tt_data.specs.Forest.{Forest}
 use Rattle.tt_data.specs.declared.edition.Edition.{Edition}
+use Rattle.expander_model.specs.declared.dialect.Dialect.{Dialect}
 use Rattle.expander_model.specs.EqualTrees.{same_forest}
 use Rattle.expander_model.specs.Definitions.{Definition, definition_of}
 use Rattle.expander_model.specs.Expansion.{World}
@@ -100,18 +101,18 @@ module _ (equal : (f g : Forest) → (same_forest f g ≡ true) ↔ (f ≡ g)) w
         h.1 ∙ numbered_is equal n.entries t one.0 one.1 ∙ sym (numbered_is equal (with_trees n ts).entries t one.0 then_has),
       )
 
-module _ (laws : TurnLaws) (grammar : Grammar) (edition : Edition) (depth : ℕ) (n : Numbering) (held : List HeldPiece) (text : List ℕ) (f : Forest)
-    (next : IsNext (world grammar edition) depth n held text f) where
+module _ (laws : TurnLaws) (grammar : Grammar) (edition : Edition) (dialect : Dialect) (depth : ℕ) (n : Numbering) (held : List HeldPiece) (text : List ℕ) (f : Forest)
+    (next : IsNext (world grammar edition dialect) depth n held text f) where
   abbrev after : Numbering
   after = numbering_of n f
 
-  pub next_turn : IsTurn (world grammar edition) depth text f (number_of after.entries) (map tree_of after.entries) held
+  pub next_turn : IsTurn (world grammar edition dialect) depth text f (number_of after.entries) (map tree_of after.entries) held
   next_turn = record {
     is_text = next.is_text;
     read = next.read;
     apart = tells_apart laws.equal after (with_trees_are n next.entries (definition_trees (pieces f)));
     known = all_known laws.equal n (definition_trees (pieces f));
-    right = more_held (world grammar edition) depth (InEntries n.entries) (InEntries after.entries) (next_more laws.equal n (definition_trees (pieces f))) held next.right;
+    right = more_held (world grammar edition dialect) depth (InEntries n.entries) (InEntries after.entries) (next_more laws.equal n (definition_trees (pieces f))) held next.right;
   }
 
   -- each definition of the text has its number among those that are kept
@@ -147,20 +148,20 @@ module _ (laws : TurnLaws) (grammar : Grammar) (edition : Edition) (depth : ℕ)
           (later (All-tail (λ (t : Forest). InEntries (kept_entries n f) t (number_of after.entries t)) (relative p) (definition_trees ps) k))
 
   abbrev takes : List Kept
-  takes = taken_after (world grammar edition) depth (number_of after.entries) held [] (pieces f)
+  takes = taken_after (world grammar edition dialect) depth (number_of after.entries) held [] (pieces f)
 
-  pub next_held : All (IsHeld (world grammar edition) depth (InEntries (kept_entries n f))) (filter_map held_of takes)
+  pub next_held : All (IsHeld (world grammar edition dialect) depth (InEntries (kept_entries n f))) (filter_map held_of takes)
   next_held =
       let trees : List Forest = definition_trees (pieces f) in
-      let news : List Kept = kept_after (world grammar edition) depth (number_of after.entries) [] (pieces f) in
+      let news : List Kept = kept_after (world grammar edition dialect) depth (number_of after.entries) [] (pieces f) in
       let numbered : All (HasNumber (InEntries (kept_entries n f)) (number_of after.entries)) (pieces f) =
       pieces_numbered (pieces f) (kept_numbered trees (is_any laws.equal trees trees (λ u h. h)) (have_numbers laws.equal n trees)) in
-      let are : All (IsKept (world grammar edition) depth (InEntries (kept_entries n f))) news =
-      kept_are laws.equal (world grammar edition) depth (InEntries (kept_entries n f)) (number_of after.entries) [] (All-nil (StandsInText (InEntries (kept_entries n f)))) (pieces f)
+      let are : All (IsKept (world grammar edition dialect) depth (InEntries (kept_entries n f))) news =
+      kept_are laws.equal (world grammar edition dialect) depth (InEntries (kept_entries n f)) (number_of after.entries) [] (All-nil (StandsInText (InEntries (kept_entries n f)))) (pieces f)
       (are_pieces (InEntries (kept_entries n f)) (number_of after.entries) (pieces f) (pieces_stand laws.order text f next.is_text next.read) numbered) in
-      subst (λ (ks : List Kept). All (IsHeld (world grammar edition) depth (InEntries (kept_entries n f))) (filter_map held_of ks))
-      (sym (takes_are laws grammar edition depth text f (number_of after.entries) (map tree_of after.entries) held next_turn))
-      (held_are laws.equal (world grammar edition) depth (InEntries (kept_entries n f)) news are)
+      subst (λ (ks : List Kept). All (IsHeld (world grammar edition dialect) depth (InEntries (kept_entries n f))) (filter_map held_of ks))
+      (sym (takes_are laws grammar edition dialect depth text f (number_of after.entries) (map tree_of after.entries) held next_turn))
+      (held_are laws.equal (world grammar edition dialect) depth (InEntries (kept_entries n f)) news are)
 
   pub next_entries : AreEntries after.given (kept_entries n f)
   next_entries =

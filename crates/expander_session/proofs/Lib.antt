@@ -5,6 +5,7 @@ mod MemoRefLemmas
 pub mod WordLemmas
 pub mod AgreementLemmas
 pub mod FindsLemmas
+pub mod ExpandedLemmas
 mod LookupTreeLemmas
 pub mod WorldLemmas
 pub mod TreeLemmas

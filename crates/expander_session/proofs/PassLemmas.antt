@@ -16,8 +16,8 @@ use Rattle.expander_model.specs.HashedTrees.{own_top, tree_hash}
 use Rattle.expander_model.specs.EqualTrees.{same_forest}
 use Rattle.expander_model.specs.Definitions.{Definition, definition_of, or_else}
 use Rattle.expander_scope.specs.Editions.{IsRead}
-use Rattle.expander_model.specs.Expansion.{Outcome, World, expansion}
-use Rattle.expander_model.specs.Held.{IsMet, Kept, Met, Numbered, first_place, kept, kept_of, met, met_of, numbered_scope, numbered_world, present, with_met}
+use Rattle.expander_model.specs.Expansion.{Outcome, World}
+use Rattle.expander_model.specs.Held.{IsMet, Kept, Met, Numbered, first_place, kept, kept_of, met, met_of, numbered_scope, numbered_world, present, unnumbered, with_met}
 use Rattle.expander_model.specs.DefinitionTrees.{definition_trees}
 use Rattle.expander_session.specs.CachedOutputs.{Holds}
 use Rattle.expander_scope.specs.MacroDefs.{definition_in}
@@ -31,19 +31,21 @@ use Rattle.expander_model.specs.OtherPlaces.{LooksAtNoPlace}
 use Rattle.expander_session.specs.Emitting.{HasOutput, PutsOut}
 use Rattle.expander_scope.specs.Outcomes.{numbered_of_known, parts_of}
 use Rattle.expander_model.specs.Pieces.{first_start, relative}
+use Rattle.expander_model.specs.Scoping.{expanded}
 use Rattle.expander_session.specs.AbsoluteSpans.{resolved_faults, resolved_steps, told_if_broken}
 use Rattle.expander_session.specs.Memos.{finds_of, tree_of}
 use Rattle.expander_session.specs.Reuse.{HeldPiece, IsHeld, matches}
 use Rattle.expander_session.specs.Evaluating.{Grows, HasTaken, IsEvaluated}
 use Rattle.expander_session.specs.TextTurn.{held_of, is_unmatched}
 use Rattle.expander_model.specs.World.{world}
+use Rattle.expander_model.specs.declared.dialect.Dialect.{Dialect}
 use Rattle.expander_session.specs.declared.cache.Cache.{Cache}
 use Rattle.expander_scope.specs.declared.scope.Scope.{Scope}
 use Rattle.expander_scope.specs.declared.macro_def.MacroDef.{MacroDef}
 use Rattle.expander_session.specs.declared.memo.Memo.{Memo}
 use Rattle.expander_session.specs.declared.evaluate.Evaluated.{Evaluated}
 use Rattle.expander_session.specs.declared.evaluate.Evaluation.{Evaluation}
-use Rattle.expander_session.proofs.FindsLemmas.{expansion_by_finds}
+use Rattle.expander_session.proofs.ExpandedLemmas.{expanded_by_finds}
 use Rattle.expander_session.proofs.KeptLemmas.{more_held}
 use Rattle.expander_session.proofs.AbsoluteSpanLemmas.{kept_faults, kept_steps, met_faults}
 use Rattle.expander_session.proofs.ReuseLemmas.{fresh_is_held, met_scope}
@@ -124,16 +126,16 @@ module _ (given : ℕ) (old : Forest → Option ℕ) (known trees : List Forest)
 
 module _ (equal : (f g : Forest) → (same_forest f g ≡ true) ↔ (f ≡ g)) (w : World Definition) (depth : ℕ) (numbers : Forest → Option ℕ) (before : List Met)
     (known : All (IsMet (numbered_by numbers)) before) (tree : Forest) (q : Memo) (top : tree_of q ≡ own_top tree)
-    (parts : Holds q (parts_of (expansion (numbered_world w) (numbered_scope before) depth None tree))) where
+    (parts : Holds q (parts_of (expanded (numbered_world w) unnumbered (numbered_scope before) depth tree))) where
   trees_same : (tree_of q).inner ≡ tree
   trees_same = ap (λ (t : Top). t.inner) top
 
   -- it is what its expansion is
-  pub piece_found : piece_of w depth q ≡ record { tree = tree; outcome = expansion (numbered_world w) (numbered_scope before) depth None tree }
+  pub piece_found : piece_of w depth q ≡ record { tree = tree; outcome = expanded (numbered_world w) unnumbered (numbered_scope before) depth tree }
   piece_found =
-      ap (λ (t : Forest). record { tree = t; outcome = expansion (numbered_world w) (scope_of (finds_of q)) depth None t }) trees_same
-      ∙ ap (λ (fs : List (List ℕ × Option Numbered)). record { tree = tree; outcome = expansion (numbered_world w) (scope_of fs) depth None tree }) parts.finds
-      ∙ ap (λ (o : Outcome Numbered). record { tree = tree; outcome = o }) (expansion_by_finds (numbered_world w) (numbered_scope before) depth None tree)
+      ap (λ (t : Forest). record { tree = t; outcome = expanded (numbered_world w) unnumbered (scope_of (finds_of q)) depth t }) trees_same
+      ∙ ap (λ (fs : List (List ℕ × Option Numbered)). record { tree = tree; outcome = expanded (numbered_world w) unnumbered (scope_of fs) depth tree }) parts.finds
+      ∙ ap (λ (o : Outcome Numbered). record { tree = tree; outcome = o }) (expanded_by_finds (numbered_world w) unnumbered (numbered_scope before) depth tree)
 
   pub piece_right : is_some (definition_of tree) ≡ false → IsRight w depth numbers q
   piece_right plain = record {
@@ -145,12 +147,12 @@ module _ (equal : (f g : Forest) → (same_forest f g ≡ true) ↔ (f ≡ g)) (
   }
 
 -- what follows from what is held of a piece for its tree, for a tree that it has
-pub for_tree : (grammar : Grammar) (scope : Scope) (depth : ℕ) (r : Forest) (p : Memo) (P : Forest → Type 0)
-    → tree_of p ≡ own_top r → Holds p (parts_of (expanded_under grammar scope depth r))
-    → (Holds p (parts_of (expanded_under grammar scope depth (tree_of p).inner)) → P (tree_of p).inner) → P r
-for_tree grammar scope depth r p P top holds gives =
+pub for_tree : (grammar : Grammar) (scope : Scope) (dialect : Dialect) (depth : ℕ) (r : Forest) (p : Memo) (P : Forest → Type 0)
+    → tree_of p ≡ own_top r → Holds p (parts_of (expanded_under grammar scope dialect depth r))
+    → (Holds p (parts_of (expanded_under grammar scope dialect depth (tree_of p).inner)) → P (tree_of p).inner) → P r
+for_tree grammar scope dialect depth r p P top holds gives =
     let here : (tree_of p).inner ≡ r = ap (λ (t : Top). t.inner) top in
-    subst P here (gives (subst (λ (f : Forest). Holds p (parts_of (expanded_under grammar scope depth f))) (sym here) holds))
+    subst P here (gives (subst (λ (f : Forest). Holds p (parts_of (expanded_under grammar scope dialect depth f))) (sym here) holds))
 
 -- ---- one more piece
 
@@ -160,12 +162,12 @@ unwrapped o d x e = ap (λ (y : Option Definition). unwrap_or y x) e
 definition_is : (f : Forest) (d : Definition) → definition_of f ≡ Some d → definition_in f ≡ d
 definition_is f d e = unwrapped (definition_of f) d _ e
 
-module _ (grammar : Grammar) (edition : Edition) (depth : ℕ) (old : Cache) (piece : Forest) (now next : Evaluation) where
+module _ (grammar : Grammar) (edition : Edition) (dialect : Dialect) (depth : ℕ) (old : Cache) (piece : Forest) (now next : Evaluation) where
   abbrev W : World Definition
-  W = world grammar edition
+  W = world grammar edition dialect
 
   abbrev L : Layers
-  L = layers grammar edition
+  L = layers grammar edition dialect
 
   abbrev held : List HeldPiece
   held = map (λ q. piece_of W depth (rc_value q)) old.plains.items
@@ -184,15 +186,15 @@ module _ (grammar : Grammar) (edition : Edition) (depth : ℕ) (old : Cache) (pi
       → ((given : ℕ) (numbers : Forest → Option ℕ) (before : List Met) → AreNumbers given numbers → MoreNumbers (numbers_in old.by_tree) numbers
       → All (λ q. IsRight W depth numbers (rc_value q)) now.taken.plains.items
       → scope_in now.scope ≡ numbered_scope before → All (IsMet (numbered_by numbers)) before
-      → Holds q (parts_of (expansion (numbered_world W) (scope_in now.scope) depth None t.inner)))
+      → Holds q (parts_of (expanded (numbered_world W) unnumbered (scope_in now.scope) depth t.inner)))
       → (before : List Met) (trees : List Forest) (done : List Kept) → Has before trees done now
-      → Holds q (parts_of (expansion (numbered_world W) (scope_in now.scope) depth None r))
+      → Holds q (parts_of (expanded (numbered_world W) unnumbered (scope_in now.scope) depth r))
   parts_taken t q tree_is outcome before trees done has =
       let are = has.taken.numbers.numbers in
       let numbers : Forest → Option ℕ = numbers_in now.taken.numbers.by_tree in
       let both : Forest → Option ℕ = by_either numbers (numbers_in old.by_tree) in
       let stays : MoreNumbers numbers both = now_stays old.given (numbers_in old.by_tree) (trees_of old) trees now.taken.numbers.given numbers are in
-      subst (λ (u : Top). Holds q (parts_of (expansion (numbered_world W) (scope_in now.scope) depth None u.inner))) tree_is
+      subst (λ (u : Top). Holds q (parts_of (expanded (numbered_world W) unnumbered (scope_in now.scope) depth u.inner))) tree_is
       (outcome now.taken.numbers.given both before are.numbers
       (old_stays old.given (numbers_in old.by_tree) (trees_of old) trees now.taken.numbers.given numbers are)
       (right_grows W depth numbers both stays now.taken.plains.items has.taken.right) has.met.finds (known_grows numbers both stays before has.known))
@@ -202,21 +204,21 @@ module _ (grammar : Grammar) (edition : Edition) (depth : ℕ) (old : Cache) (pi
       (top : tree_of (rc_value q) ≡ own_top r)
       (plains_are : next.taken.plains.items ≡ now.taken.plains.items ++ q ∷ [])
       (hashes_are : next.taken.hashes.items ≡ now.taken.hashes.items ++ tree_hash (tree_of (rc_value q)) ∷ [])
-      (steps : Holds (rc_value q) (parts_of (expansion (numbered_world W) (scope_in now.scope) depth None r))
-      → PutsOut now.taken.steps next.taken.steps (resolved_steps start now.scope.starts (expansion (numbered_world W) (scope_in now.scope) depth None r).steps))
+      (steps : Holds (rc_value q) (parts_of (expanded (numbered_world W) unnumbered (scope_in now.scope) depth r))
+      → PutsOut now.taken.steps next.taken.steps (resolved_steps start now.scope.starts (expanded (numbered_world W) unnumbered (scope_in now.scope) depth r).steps))
       (faults : next.taken.faults.items ≡ now.taken.faults.items ++ resolved_faults start now.scope.starts (rc_value q).faults.items)
       (counted : matched ≡ list_any (matches (scope_in now.scope) r) held)
-      (expanded : next.taken.expanded ≡ now.taken.expanded + cond matched 0 1) where
+      (more : next.taken.expanded ≡ now.taken.expanded + cond matched 0 1) where
     module _ (before : List Met) (trees : List Forest) (done : List Kept) (has : Has before trees done now)
-        (parts : Holds (rc_value q) (parts_of (expansion (numbered_world W) (scope_in now.scope) depth None r))) where
+        (parts : Holds (rc_value q) (parts_of (expanded (numbered_world W) unnumbered (scope_in now.scope) depth r))) where
       abbrev E : Outcome Numbered
-      E = expansion (numbered_world W) (numbered_scope before) depth None r
+      E = expanded (numbered_world W) unnumbered (numbered_scope before) depth r
 
       abbrev k : Kept
       k = kept start before r E
 
       parts_now : Holds (rc_value q) (parts_of E)
-      parts_now = subst (λ s. Holds (rc_value q) (parts_of (expansion (numbered_world W) s depth None r))) has.met.finds parts
+      parts_now = subst (λ s. Holds (rc_value q) (parts_of (expanded (numbered_world W) unnumbered s depth r))) has.met.finds parts
 
       found : piece_of W depth (rc_value q) ≡ record { tree = r; outcome = E }
       found = piece_found equal W depth (numbers_in now.taken.numbers.by_tree) before has.known r (rc_value q) top parts_now
@@ -224,9 +226,9 @@ module _ (grammar : Grammar) (edition : Edition) (depth : ℕ) (old : Cache) (pi
       right_now : is_some (definition_of r) ≡ false → IsRight W depth (numbers_in now.taken.numbers.by_tree) (rc_value q)
       right_now plain = piece_right equal W depth (numbers_in now.taken.numbers.by_tree) before has.known r (rc_value q) top parts_now plain
 
-      emit_events : resolved_steps start now.scope.starts (expansion (numbered_world W) (scope_in now.scope) depth None r).steps ≡ output_of (present k)
+      emit_events : resolved_steps start now.scope.starts (expanded (numbered_world W) unnumbered (scope_in now.scope) depth r).steps ≡ output_of (present k)
       emit_events =
-          ap (λ s. resolved_steps start now.scope.starts (expansion (numbered_world W) s depth None r).steps) has.met.finds
+          ap (λ s. resolved_steps start now.scope.starts (expanded (numbered_world W) unnumbered s depth r).steps) has.met.finds
           ∙ kept_steps L start now.scope.starts before has.met.starts r E
 
       put_faults : resolved_faults start now.scope.starts (rc_value q).faults.items ≡ member_faults L (present k)
@@ -268,7 +270,7 @@ module _ (grammar : Grammar) (edition : Edition) (depth : ℕ) (old : Cache) (pi
               (steps parts (flat_map output_of (map present done)) has.taken.steps);
           faults = faults ∙ ap (λ l. l ++ resolved_faults start now.scope.starts (rc_value q).faults.items) has.taken.faults
               ∙ ap (λ l. flat_map (member_faults L) (map present done) ++ l) put_faults ∙ sym (flat_present (member_faults L) done k);
-          expanded = expanded ∙ ap (λ n. n + cond matched 0 1) has.taken.expanded
+          expanded = more ∙ ap (λ n. n + cond matched 0 1) has.taken.expanded
               ∙ ap (λ n. length (filter (is_unmatched held) done) + n) number_more ∙ sym (counted_more (is_unmatched held) done k);
         };
       }
@@ -361,7 +363,7 @@ module _ (grammar : Grammar) (edition : Edition) (depth : ℕ) (old : Cache) (pi
             steps = subst (λ s. HasOutput s (flat_map output_of (map present (done ++ met m ∷ [])))) (sym steps_are)
                 (subst (HasOutput now.taken.steps) (sym (append-nil (flat_map output_of (map present done))) ∙ sym (flat_present output_of done (met m))) has.taken.steps);
             faults = faults ∙ ap (λ l. l ++ told_if_broken start k) has.taken.faults
-                ∙ ap (λ l. flat_map (member_faults L) (map present done) ++ l) (met_faults grammar edition law (first_place piece) k read)
+                ∙ ap (λ l. flat_map (member_faults L) (map present done) ++ l) (met_faults grammar edition dialect law (first_place piece) k read)
                 ∙ sym (flat_present (member_faults L) done (met m));
             expanded = expanded_are ∙ has.taken.expanded ∙ none_more (length (filter (is_unmatched held) done)) ∙ sym (counted_more (is_unmatched held) done (met m));
           };
@@ -380,10 +382,10 @@ module _ (grammar : Grammar) (edition : Edition) (depth : ℕ) (old : Cache) (pi
             (subst (λ (x : Met). Has (x ∷ before) (trees ++ r ∷ []) (done ++ met x ∷ []) next) (sym same) one_defined)
 
 -- no piece so far
-pub none_taken : (grammar : Grammar) (edition : Edition) (depth : ℕ) (old : Cache) → IsCache (world grammar edition) depth edition old → (now : Evaluated)
+pub none_taken : (grammar : Grammar) (edition : Edition) (dialect : Dialect) (depth : ℕ) (old : Cache) → IsCache (world grammar edition dialect) depth edition old → (now : Evaluated)
     → now.numbers.given ≡ old.given → now.numbers.definitions.items ≡ [] → ((t : Top) → known_in now.numbers.by_tree t ≡ None) → now.plains.items ≡ []
-    → now.hashes.items ≡ [] → HasOutput now.steps [] → now.faults.items ≡ [] → now.expanded ≡ 0 → IsEvaluated (world grammar edition) edition depth old (layers grammar edition) [] [] now
-none_taken grammar edition depth old right now given definitions none plains hashes steps faults expanded = record {
+    → now.hashes.items ≡ [] → HasOutput now.steps [] → now.faults.items ≡ [] → now.expanded ≡ 0 → IsEvaluated (world grammar edition dialect) edition depth old (layers grammar edition dialect) [] [] now
+none_taken grammar edition dialect depth old right now given definitions none plains hashes steps faults expanded = record {
   numbers = record {
     numbers = record {
       numbers = record {
@@ -401,9 +403,9 @@ none_taken grammar edition depth old right now given definitions none plains has
     listed = subst (AreInTable now.numbers.by_tree) (sym definitions) (All-nil (λ (k : Rc MacroDef Global). known_in now.numbers.by_tree (rc_value k).tree ≡ Some (rc_value k)));
   };
   table_read = λ t k e. absurd (no_known k (sym (none t) ∙ e));
-  plains = ap (map (λ q. piece_of (world grammar edition) depth (rc_value q))) plains;
-  right = subst (All (λ q. IsRight (world grammar edition) depth (numbers_in now.numbers.by_tree) (rc_value q))) (sym plains)
-      (All-nil (λ q. IsRight (world grammar edition) depth (numbers_in now.numbers.by_tree) (rc_value q)));
+  plains = ap (map (λ q. piece_of (world grammar edition dialect) depth (rc_value q))) plains;
+  right = subst (All (λ q. IsRight (world grammar edition dialect) depth (numbers_in now.numbers.by_tree) (rc_value q))) (sym plains)
+      (All-nil (λ q. IsRight (world grammar edition dialect) depth (numbers_in now.numbers.by_tree) (rc_value q)));
   hashes = hashes ∙ ap (map (λ (x : Rc Memo Global). tree_hash (tree_of (rc_value x)))) (sym plains);
   steps = steps;
   faults = faults;

@@ -11,8 +11,8 @@ use Rattle.tt_data.specs.declared.edition.Edition.{Edition}
 use Rattle.expander_scope.specs.Interning.{AllRead, numbers_in}
 use Rattle.expander_model.specs.EqualTrees.{same_forest}
 use Rattle.expander_model.specs.Definitions.{Definition, definition_of, nearest}
-use Rattle.expander_model.specs.Expansion.{Outcome, World, expansion}
-use Rattle.expander_model.specs.Held.{IsMet, Kept, Met, Numbered, StandFromFirst, Stands, Tells, first_place, kept_after, kept_of, met, mets_after, numbered_world, present, present_definition, resolve, with_met}
+use Rattle.expander_model.specs.Expansion.{Outcome, World}
+use Rattle.expander_model.specs.Held.{IsMet, Kept, Met, Numbered, StandFromFirst, Stands, Tells, first_place, kept_after, kept_of, met, mets_after, numbered_world, present, present_definition, resolve, unnumbered, with_met}
 use Rattle.expander_model.specs.DefinitionTrees.{definition_trees}
 use Rattle.expander_session.specs.Layered.{layers}
 use Rattle.expander_model.specs.Meaning.{Layers, Member, definitions_after, member, members_after, plain, with_definition}
@@ -22,10 +22,12 @@ use Rattle.expander_scope.specs.DefinitionIds.{number_by, numbered_by}
 use Rattle.expander_scope.specs.NewNumbers.{needed}
 use Rattle.expander_model.specs.OtherPlaces.{LooksAtNoPlace, definition_with}
 use Rattle.expander_model.specs.Pieces.{first_start, relative}
+use Rattle.expander_model.specs.Scoping.{expanded}
 use Rattle.expander_session.specs.Evaluating.{CanDefine, Evaluates, Grows, HasImported, HasTaken, IsEvaluated, MakesTooMany, NeedsMore}
 use Rattle.expander_session.specs.EvaluatedTexts.{kept_in}
 use Rattle.expander_session.specs.TooMany.{bursts}
 use Rattle.expander_model.specs.World.{world}
+use Rattle.expander_model.specs.declared.dialect.Dialect.{Dialect}
 use Rattle.expander_session.specs.declared.cache.Cache.{Cache}
 use Rattle.expander_session.specs.declared.evaluate.Evaluation.{Evaluation}
 use Rattle.expander_scope.proofs.HeldLemmas.{definition_there, definitions_present, resolved_expansion}
@@ -43,12 +45,12 @@ any_in p (x ∷ xs) y ys e = ap (λ (b : Bool). p x || b) (any_in p xs y ys e) �
     go true = refl
     go false = refl
 
-module _ (grammar : Grammar) (edition : Edition) (depth : ℕ) (old : Cache) (prelude text : List Forest) where
+module _ (grammar : Grammar) (edition : Edition) (dialect : Dialect) (depth : ℕ) (old : Cache) (prelude text : List Forest) where
   abbrev W : World Definition
-  W = world grammar edition
+  W = world grammar edition dialect
 
   abbrev L : Layers
-  L = layers grammar edition
+  L = layers grammar edition dialect
 
   -- the pieces that are left are to be taken
   pub record Left (rest : List Forest) (now : Evaluation) : Type 0 where
@@ -58,14 +60,14 @@ module _ (grammar : Grammar) (edition : Edition) (depth : ℕ) (old : Cache) (pr
     pub has : HasTaken W edition depth old L before trees done now
     pub stand : All StandFromFirst rest
     pub kept_are : (final : Forest → Option ℕ) → MoreNumbers (numbers_in now.taken.numbers.by_tree) final
-        → kept_in grammar edition depth final prelude text ≡ done ++ kept_after W depth (number_by final) before rest
+        → kept_in grammar edition dialect depth final prelude text ≡ done ++ kept_after W depth (number_by final) before rest
     pub trees_are : definition_trees prelude ++ definition_trees text ≡ trees ++ definition_trees rest
     pub members_are : members_after L depth (definitions_after [] prelude) text
         ≡ map present done ++ members_after L depth (map present_definition before) rest
 
   -- nothing is in scope, and nothing is evaluated
   pub none_imported : (now : Evaluation) → HasMet now.scope [] → AreRead now.scope → now.scope.edition ≡ edition
-      → IsEvaluated W edition depth old L [] [] now.taken → HasImported grammar edition depth old [] now
+      → IsEvaluated W edition depth old L [] [] now.taken → HasImported grammar edition dialect depth old [] now
   none_imported now has_met read edition_is taken = record {
     met = has_met;
     known = All-nil (IsMet (numbered_by (numbers_in now.taken.numbers.by_tree)));
@@ -75,7 +77,7 @@ module _ (grammar : Grammar) (edition : Edition) (depth : ℕ) (old : Cache) (pr
   }
 
   -- the prelude is in scope
-  pub left_begins : All Stands prelude → All StandFromFirst text → (now : Evaluation) → HasImported grammar edition depth old prelude now → Left text now
+  pub left_begins : All Stands prelude → All StandFromFirst text → (now : Evaluation) → HasImported grammar edition dialect depth old prelude now → Left text now
   left_begins stands stand now has =
       let N : Forest → Option ℕ = numbers_in now.taken.numbers.by_tree in record {
         before = mets_after W depth (number_by N) [] prelude;
@@ -89,9 +91,9 @@ module _ (grammar : Grammar) (edition : Edition) (depth : ℕ) (old : Cache) (pr
       }
 
   pub left_done : (now : Evaluation) → Left [] now → IsEvaluated W edition depth old L (definition_trees prelude ++ definition_trees text)
-      (kept_in grammar edition depth (numbers_in now.taken.numbers.by_tree) prelude text) now.taken
+      (kept_in grammar edition dialect depth (numbers_in now.taken.numbers.by_tree) prelude text) now.taken
   left_done now l =
-      subst (λ ts. IsEvaluated W edition depth old L ts (kept_in grammar edition depth (numbers_in now.taken.numbers.by_tree) prelude text) now.taken)
+      subst (λ ts. IsEvaluated W edition depth old L ts (kept_in grammar edition dialect depth (numbers_in now.taken.numbers.by_tree) prelude text) now.taken)
       (sym (append-nil l.trees) ∙ sym l.trees_are)
       (subst (λ ks. IsEvaluated W edition depth old L l.trees ks now.taken)
       (sym (append-nil l.done) ∙ sym (l.kept_are (numbers_in now.taken.numbers.by_tree) (λ t n e. e))) l.has.taken)
@@ -144,22 +146,22 @@ module _ (grammar : Grammar) (edition : Edition) (depth : ℕ) (old : Cache) (pr
               let there : map_spans (resolve (first_start piece) l.before) r ≡ piece = resolved_piece (first_start piece) l.before piece from in
               let scope : List ℕ → Option Definition = nearest (map present_definition l.before) in
               let later : List Member = members_after L depth (map present_definition l.before) rest in
-              ap (λ (q : Forest). plain q (expansion W scope depth None q) ∷ later) (sym there)
+              ap (λ (q : Forest). plain q (expanded W (λ d. d) scope depth q) ∷ later) (sym there)
               ∙ ap (λ (o : Outcome Definition). plain (map_spans (resolve (first_start piece) l.before) r) o ∷ later)
               (resolved_expansion W law (numbered_by numbers) tell (first_start piece) l.before l.has.known depth r)
 
       -- too many tokens
-      pub left_bursts : MakesTooMany grammar edition depth piece now → list_any bursts (members_after L depth (definitions_after [] prelude) text) ≡ true
+      pub left_bursts : MakesTooMany grammar edition dialect depth piece now → list_any bursts (members_after L depth (definitions_after [] prelude) text) ≡ true
       left_bursts many =
           let number_of : Forest → ℕ = number_by numbers in
           let k : Kept = kept_of W depth number_of l.before piece (definition_of r) in
           let later : List Member = members_after L depth (map present_definition (with_met W depth number_of piece (definition_of r) l.before)) rest in
           let here : bursts (present k) ≡ true =
           ap (λ (o : Option Definition). bursts (present (kept_of W depth number_of l.before piece o))) many.0
-          ∙ ap (λ (s : List ℕ → Option Numbered). (expansion (numbered_world W) s depth None r).bursts) (sym l.has.met.finds) ∙ many.1 in
+          ∙ ap (λ (s : List ℕ → Option Numbered). (expanded (numbered_world W) unnumbered s depth r).bursts) (sym l.has.met.finds) ∙ many.1 in
           ap (list_any bursts) (l.members_are ∙ ap (λ ms. map present l.done ++ ms) (member_is number_of)) ∙ any_in bursts (map present l.done) (present k) later here
 
-      module _ (next : Evaluation) (grows : Grows now.taken next.taken) (takes : Evaluates grammar edition depth old piece now next) where
+      module _ (next : Evaluation) (grows : Grows now.taken next.taken) (takes : Evaluates grammar edition dialect depth old piece now next) where
         abbrev N : Forest → Option ℕ
         N = numbers_in next.taken.numbers.by_tree
 

@@ -10,14 +10,14 @@ use Rattle.tt_data.specs.Forest.{Forest}
 use Rattle.expander_session.specs.Agreement.{FoundIn, scope_of}
 use Rattle.expander_session.specs.Count.{Looked, finds_within, is_same, same_found}
 use Rattle.expander_model.specs.EqualTrees.{same_forest}
-use Rattle.expander_model.specs.Expansion.{World, Outcome, expansion}
+use Rattle.expander_model.specs.Expansion.{World, Outcome}
 use Rattle.expander_model.specs.Definitions.{Definition}
-use Rattle.expander_model.specs.Held.{IsMet, IsNumbered, Met, Numbered, Tells, nearest_met, numbered_of, numbered_scope, numbered_world}
+use Rattle.expander_model.specs.Held.{IsMet, IsNumbered, Met, Numbered, Tells, nearest_met, numbered_of, numbered_scope, numbered_world, unnumbered}
+use Rattle.expander_model.specs.Scoping.{expanded}
 use Rattle.expander_session.specs.Reuse.{FoundIs, HeldPiece, IsHeld, agrees, looked_at, looked_held, matches, reused_outcome, same_number}
 use Rattle.small_grammar.specs.Text.{same_text}
-use Rattle.expander_session.proofs.AgreementLemmas.{same_expansion}
+use Rattle.expander_session.proofs.ExpandedLemmas.{expanded_by_finds, found_expanded, same_expanded}
 use Rattle.expander_model.proofs.DefinitionPlaceLemmas.{definition_piece}
-use Rattle.expander_session.proofs.FindsLemmas.{expansion_by_finds, expansion_found}
 use Rattle.expander_scope.proofs.HeldLemmas.{found_is, same_definition}
 
 text_is : (a b : List ℕ) → same_text a b ≡ true → a ≡ b
@@ -59,10 +59,10 @@ module _ (equal : (f g : Forest) → (same_forest f g ≡ true) ↔ (f ≡ g)) w
 
   -- a fresh outcome is held
   pub fresh_is_held : (world : World Definition) (depth : ℕ) (table : Forest → ℕ → Type 0) (scope : Scope) → IsScope table scope → (tree : Forest)
-      → IsHeld world depth table (record { tree = tree; outcome = expansion (numbered_world world) scope depth None tree })
+      → IsHeld world depth table (record { tree = tree; outcome = expanded (numbered_world world) unnumbered scope depth tree })
   fresh_is_held world depth table scope h tree = record {
-    is = sym (expansion_by_finds (numbered_world world) scope depth None tree);
-    finds = found_numbers table scope h _ (expansion_found (numbered_world world) scope depth None tree);
+    is = sym (expanded_by_finds (numbered_world world) unnumbered scope depth tree);
+    finds = found_numbers table scope h _ (found_expanded (numbered_world world) unnumbered scope depth tree);
   }
 
   numbered_eq : (a b : Numbered) → a.number ≡ b.number → a.definition ≡ b.definition → a ≡ b
@@ -88,27 +88,27 @@ module _ (equal : (f g : Forest) → (same_forest f g ≡ true) ↔ (f ≡ g)) w
   -- a match has the outcome that a new expansion would have
   pub match_is : (world : World Definition) (depth : ℕ) (table : Forest → ℕ → Type 0) → Tells table → (scope : Scope) → IsScope table scope
       → (tree : Forest) (q : HeldPiece) → IsHeld world depth table q → matches scope tree q ≡ true
-      → q.outcome ≡ expansion (numbered_world world) scope depth None tree
+      → q.outcome ≡ expanded (numbered_world world) unnumbered scope depth tree
   match_is world depth table tells scope h tree q held e =
       let parts = and_parts _ _ e in
       let trees : tree ≡ q.tree = forest_is tree q.tree parts.0 in
       let found : FoundIn scope q.outcome.finds = agreed table tells scope h q.outcome.finds held.finds parts.1 in
-      let known : FoundIn scope (expansion (numbered_world world) (scope_of q.outcome.finds) depth None q.tree).finds = subst (λ (o : Outcome Numbered). FoundIn scope o.finds) held.is found in
-      held.is ∙ sym (same_expansion (numbered_world world) (scope_of q.outcome.finds) scope depth None q.tree known)
-      ∙ ap (expansion (numbered_world world) scope depth None) (sym trees)
+      let known : FoundIn scope (expanded (numbered_world world) unnumbered (scope_of q.outcome.finds) depth q.tree).finds = subst (λ (o : Outcome Numbered). FoundIn scope o.finds) held.is found in
+      held.is ∙ sym (same_expanded (numbered_world world) unnumbered (scope_of q.outcome.finds) scope depth q.tree known)
+      ∙ ap (expanded (numbered_world world) unnumbered scope depth) (sym trees)
 
   -- whatever is held, a piece's outcome is that of a new expansion
   pub reuse_is : (world : World Definition) (depth : ℕ) (table : Forest → ℕ → Type 0) → Tells table → (scope : Scope) → IsScope table scope
       → (tree : Forest) (held : List HeldPiece) → All (IsHeld world depth table) held
-      → reused_outcome (find (matches scope tree) held) (expansion (numbered_world world) scope depth None tree)
-      ≡ expansion (numbered_world world) scope depth None tree
+      → reused_outcome (find (matches scope tree) held) (expanded (numbered_world world) unnumbered scope depth tree)
+      ≡ expanded (numbered_world world) unnumbered scope depth tree
   reuse_is world depth table tells scope h tree [] all = refl
   reuse_is world depth table tells scope h tree (q ∷ held) all =
       go (reuse_is world depth table tells scope h tree held (All-tail (IsHeld world depth table) q held all)) (matches scope tree q) refl
     where
-      go : reused_outcome (find (matches scope tree) held) (expansion (numbered_world world) scope depth None tree) ≡ expansion (numbered_world world) scope depth None tree
+      go : reused_outcome (find (matches scope tree) held) (expanded (numbered_world world) unnumbered scope depth tree) ≡ expanded (numbered_world world) unnumbered scope depth tree
           → (t : Bool) → matches scope tree q ≡ t
-          → reused_outcome (cond t (Some q) (find (matches scope tree) held)) (expansion (numbered_world world) scope depth None tree) ≡ expansion (numbered_world world) scope depth None tree
+          → reused_outcome (cond t (Some q) (find (matches scope tree) held)) (expanded (numbered_world world) unnumbered scope depth tree) ≡ expanded (numbered_world world) unnumbered scope depth tree
       go later true e = match_is world depth table tells scope h tree q (All-head (IsHeld world depth table) q held all) e
       go later false e = later
 
@@ -194,30 +194,30 @@ module _ (equal : (f g : Forest) → (same_forest f g ≡ true) ↔ (f ≡ g)) w
   -- a held piece matches exactly where the count sees the same piece
   pub match_is_same : (world : World Definition) (depth : ℕ) (table : Forest → ℕ → Type 0) → Tells table → (scope : Scope) → IsScope table scope
       → (tree : Forest) (q : HeldPiece) → IsHeld world depth table q
-      → is_same (looked_at tree (expansion (numbered_world world) scope depth None tree)) (looked_held q) ≡ matches scope tree q
+      → is_same (looked_at tree (expanded (numbered_world world) unnumbered scope depth tree)) (looked_held q) ≡ matches scope tree q
   match_is_same world depth table tells scope h tree q held =
       bool_eq _ _ forth back
     where
-      forth : is_same (looked_at tree (expansion (numbered_world world) scope depth None tree)) (looked_held q) ≡ true → matches scope tree q ≡ true
+      forth : is_same (looked_at tree (expanded (numbered_world world) unnumbered scope depth tree)) (looked_held q) ≡ true → matches scope tree q ≡ true
       forth e =
           let parts = and_parts _ _ e in
           let finds = and_parts _ _ parts.1 in
           and_from _ _ parts.0
-          (agrees_within table tells scope h _ (expansion_found (numbered_world world) scope depth None tree) q.outcome.finds held.finds finds.1)
+          (agrees_within table tells scope h _ (found_expanded (numbered_world world) unnumbered scope depth tree) q.outcome.finds held.finds finds.1)
 
-      back : matches scope tree q ≡ true → is_same (looked_at tree (expansion (numbered_world world) scope depth None tree)) (looked_held q) ≡ true
+      back : matches scope tree q ≡ true → is_same (looked_at tree (expanded (numbered_world world) unnumbered scope depth tree)) (looked_held q) ≡ true
       back e =
           let parts = and_parts _ _ e in
           let trees : tree ≡ q.tree = forest_is tree q.tree parts.0 in
           let outcome = match_is world depth table tells scope h tree q held e in
-          let one : looked_at tree (expansion (numbered_world world) scope depth None tree) ≡ looked_held q =
-          ap (λ (t : Forest). looked_at t (expansion (numbered_world world) scope depth None tree)) trees ∙ ap (looked_at q.tree) (sym outcome) in
+          let one : looked_at tree (expanded (numbered_world world) unnumbered scope depth tree) ≡ looked_held q =
+          ap (λ (t : Forest). looked_at t (expanded (numbered_world world) unnumbered scope depth tree)) trees ∙ ap (looked_at q.tree) (sym outcome) in
           ap (λ (l : Looked). is_same l (looked_held q)) one ∙ looked_same (looked_held q)
 
   pub matches_are_same : (world : World Definition) (depth : ℕ) (table : Forest → ℕ → Type 0) → Tells table → (scope : Scope) → IsScope table scope
       → (tree : Forest) (held : List HeldPiece) → All (IsHeld world depth table) held
-      → list_any (is_same (looked_at tree (expansion (numbered_world world) scope depth None tree))) (map looked_held held) ≡ list_any (matches scope tree) held
+      → list_any (is_same (looked_at tree (expanded (numbered_world world) unnumbered scope depth tree))) (map looked_held held) ≡ list_any (matches scope tree) held
   matches_are_same world depth table tells scope h tree [] all = refl
   matches_are_same world depth table tells scope h tree (q ∷ held) all =
-      ap (λ (b : Bool). b || list_any (is_same (looked_at tree (expansion (numbered_world world) scope depth None tree))) (map looked_held held)) (match_is_same world depth table tells scope h tree q (All-head (IsHeld world depth table) q held all))
+      ap (λ (b : Bool). b || list_any (is_same (looked_at tree (expanded (numbered_world world) unnumbered scope depth tree))) (map looked_held held)) (match_is_same world depth table tells scope h tree q (All-head (IsHeld world depth table) q held all))
       ∙ ap (λ (b : Bool). matches scope tree q || b) (matches_are_same world depth table tells scope h tree held (All-tail (IsHeld world depth table) q held all))

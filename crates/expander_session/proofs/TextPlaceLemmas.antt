@@ -6,6 +6,7 @@ use Rattle.bridge.specs.TokenSteps.{text_reading}
 use Rattle.mbe.specs.Grammar.{Grammar}
 use Rattle.tt_data.specs.Forest.{Forest}
 use Rattle.tt_data.specs.declared.edition.Edition.{Edition}
+use Rattle.expander_model.specs.declared.dialect.Dialect.{Dialect}
 use Rattle.expander_model.specs.Definitions.{definition_of}
 use Rattle.expander_model.specs.Held.{HasNumber, IsMet, Known, Tells, TellsApart, kept_after, present}
 use Rattle.expander_model.specs.DefinitionTrees.{definition_trees}
@@ -46,11 +47,11 @@ module _ (number_of : Forest → ℕ) (trees : List Forest) where
       (λ d e. (first_known test (relative p) (definition_trees ps) (ap is_some e) h, refl))
       (all_numbered ps (others_known test (relative p) (definition_trees ps) h))
 
-pub text_members : RuleLaws → OrderLaws → (grammar : Grammar) (edition : Edition) (depth : ℕ) (text : List ℕ) (f : Forest) (number_of : Forest → ℕ)
+pub text_members : RuleLaws → OrderLaws → (grammar : Grammar) (edition : Edition) (dialect : Dialect) (depth : ℕ) (text : List ℕ) (f : Forest) (number_of : Forest → ℕ)
     → IsUtf8 text → text_reading text ≡ Ok f → TellsApart number_of (definition_trees (pieces f))
-    → members (layers grammar edition) depth f ≡ map present (kept_after (world grammar edition) depth number_of [] (pieces f))
-text_members rules order grammar edition depth text f number_of is_text is_read apart =
+    → members (layers grammar edition dialect) depth f ≡ map present (kept_after (world grammar edition dialect) depth number_of [] (pieces f))
+text_members rules order grammar edition dialect depth text f number_of is_text is_read apart =
     let trees : List Forest = definition_trees (pieces f) in
-    members_present (layers grammar edition) (world_at_other_places rules grammar edition) (Known number_of trees) (tells number_of trees apart) number_of depth []
+    members_present (layers grammar edition dialect) (world_at_other_places rules grammar edition dialect) (Known number_of trees) (tells number_of trees apart) number_of depth []
     (All-nil (IsMet (Known number_of trees)))
     (pieces f) (pieces_stand order text f is_text is_read) (all_numbered number_of trees (pieces f) (All-contains_itself trees))

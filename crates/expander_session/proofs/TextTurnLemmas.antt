@@ -12,12 +12,12 @@ use Rattle.expander_session.specs.Count.{Looked, expanded_count, found_piece, is
 use Rattle.expander_model.specs.EqualTrees.{same_forest}
 use Rattle.expander_model.specs.Definitions.{Definition, definition_of}
 use Rattle.expander_model.specs.Expansion.{World, Outcome}
-use Rattle.expander_model.specs.Held.{HasNumber, IsMet, Kept, Met, Numbered, StandFromFirst, Stands, Tells, kept, kept_after, kept_of, met, met_of, mets_after, nearest_met, numbered_of, numbered_scope, numbered_world, present, resolve, resolve_definition, with_met}
+use Rattle.expander_model.specs.Held.{HasNumber, IsMet, Kept, Met, Numbered, StandFromFirst, Stands, Tells, kept, kept_after, kept_of, met, met_of, mets_after, nearest_met, numbered_of, numbered_scope, numbered_world, present, resolve, resolve_definition, unnumbered, with_met}
 use Rattle.expander_model.specs.Pieces.{first_start, relative}
 use Rattle.expander_session.specs.Reuse.{HeldPiece, IsHeld, looked_at, looked_held, matches}
 use Rattle.expander_session.specs.TextTurn.{IsKept, IsPlain, StandsInText, held_of, is_unmatched, taken_after, taken_of}
 use Rattle.expander_model.proofs.DefinitionPlaceLemmas.{definition_piece}
-use Rattle.expander_session.proofs.FindsLemmas.{expansion_found}
+use Rattle.expander_session.proofs.ExpandedLemmas.{found_expanded}
 use Rattle.expander_scope.proofs.HeldLemmas.{found_is, resolved_definition}
 use Rattle.expander_model.proofs.PlaceLemmas.{own_stands, piece_and_back, resolved_piece}
 use Rattle.expander_session.proofs.ReuseLemmas.{fresh_is_held, matches_are_same, met_scope, reuse_is, seen}
@@ -158,7 +158,7 @@ module _ (equal : (f g : Forest) → (same_forest f g ≡ true) ↔ (f ≡ g)) w
       let there : map_spans (resolve start before) tree ≡ h.piece =
       ap (λ (n : ℕ). map_spans (resolve n before) tree) h.start ∙ ap (map_spans (resolve (first_start h.piece) before)) h.tree ∙ resolved_piece (first_start h.piece) before h.piece h.from in
       let found : FoundIn (numbered_scope before) outcome.finds =
-      subst (λ (o : Outcome Numbered). FoundIn (numbered_scope before) o.finds) (sym h.outcome) (expansion_found (numbered_world world) (numbered_scope before) depth None tree) in
+      subst (λ (o : Outcome Numbered). FoundIn (numbered_scope before) o.finds) (sym h.outcome) (found_expanded (numbered_world world) unnumbered (numbered_scope before) depth tree) in
       let finds = finds_seen table tells start before h.met outcome.finds found in
       let trees : relative (map_spans (resolve start before) tree) ≡ tree = ap relative there ∙ sym h.tree in
       λ i. Some (record { tree = trees i; finds = finds i })

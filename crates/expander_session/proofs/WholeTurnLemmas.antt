@@ -5,6 +5,7 @@ use Rattle.std.proofs.lemmas.List.Elements.{All-nil}
 use Rattle.mbe.specs.Grammar.{Grammar}
 use Rattle.tt_data.specs.Forest.{Forest}
 use Rattle.tt_data.specs.declared.edition.Edition.{Edition}
+use Rattle.expander_model.specs.declared.dialect.Dialect.{Dialect}
 use Rattle.expander_session.specs.Count.{expanded_count, looked_of}
 use Rattle.expander_model.specs.EqualTrees.{same_forest}
 use Rattle.expander_model.specs.Held.{HasNumber, IsMet, Kept, Known, StandFromFirst, Tells, kept_after, present}
@@ -26,16 +27,16 @@ pub record TurnLaws : Type 0 where
   pub order : OrderLaws
   pub equal : (f g : Forest) → (same_forest f g ≡ true) ↔ (f ≡ g)
 
-module _ (laws : TurnLaws) (grammar : Grammar) (edition : Edition) (depth : ℕ) (text : List ℕ) (f : Forest) (number_of : Forest → ℕ) (trees : List Forest) (held : List HeldPiece)
-    (turn : IsTurn (world grammar edition) depth text f number_of trees held) where
+module _ (laws : TurnLaws) (grammar : Grammar) (edition : Edition) (dialect : Dialect) (depth : ℕ) (text : List ℕ) (f : Forest) (number_of : Forest → ℕ) (trees : List Forest) (held : List HeldPiece)
+    (turn : IsTurn (world grammar edition dialect) depth text f number_of trees held) where
   abbrev table : Forest → ℕ → Type 0
   table = Known number_of trees
 
   abbrev news : List Kept
-  news = kept_after (world grammar edition) depth number_of [] (pieces f)
+  news = kept_after (world grammar edition dialect) depth number_of [] (pieces f)
 
   abbrev takes : List Kept
-  takes = taken_after (world grammar edition) depth number_of held [] (pieces f)
+  takes = taken_after (world grammar edition dialect) depth number_of held [] (pieces f)
 
   stand : All StandFromFirst (pieces f)
   stand = pieces_stand laws.order text f turn.is_text turn.read
@@ -48,34 +49,34 @@ module _ (laws : TurnLaws) (grammar : Grammar) (edition : Edition) (depth : ℕ)
 
   pub takes_are : takes ≡ news
   takes_are =
-      taken_is laws.equal (world grammar edition) depth table tell number_of held turn.right [] (All-nil (StandsInText table)) (pieces f)
+      taken_is laws.equal (world grammar edition dialect) depth table tell number_of held turn.right [] (All-nil (StandsInText table)) (pieces f)
       (are_pieces table number_of (pieces f) stand numbered)
 
-  news_are : All (IsKept (world grammar edition) depth table) news
+  news_are : All (IsKept (world grammar edition dialect) depth table) news
   news_are =
-      kept_are laws.equal (world grammar edition) depth table number_of [] (All-nil (StandsInText table)) (pieces f)
+      kept_are laws.equal (world grammar edition dialect) depth table number_of [] (All-nil (StandsInText table)) (pieces f)
       (are_pieces table number_of (pieces f) stand numbered)
 
-  members_are : members (layers grammar edition) depth f ≡ map present news
+  members_are : members (layers grammar edition dialect) depth f ≡ map present news
   members_are =
-      members_present (layers grammar edition) (world_at_other_places laws.rules grammar edition) table tell number_of depth [] (All-nil (IsMet table))
+      members_present (layers grammar edition dialect) (world_at_other_places laws.rules grammar edition dialect) table tell number_of depth [] (All-nil (IsMet table))
       (pieces f) stand numbered
 
-  pub taken : members (layers grammar edition) depth f ≡ map present takes
+  pub taken : members (layers grammar edition dialect) depth f ≡ map present takes
   taken = members_are ∙ ap (map present) (sym takes_are)
 
-  pub counted : expanded_count (Some (map looked_held held)) (looked_of (members (layers grammar edition) depth f)) ≡ length (filter (is_unmatched held) takes)
+  pub counted : expanded_count (Some (map looked_held held)) (looked_of (members (layers grammar edition dialect) depth f)) ≡ length (filter (is_unmatched held) takes)
   counted =
       ap (λ (ms : List Member). expanded_count (Some (map looked_held held)) (looked_of ms)) members_are
-      ∙ count_is laws.equal (world grammar edition) depth table tell held turn.right news news_are
+      ∙ count_is laws.equal (world grammar edition dialect) depth table tell held turn.right news news_are
       ∙ ap (λ (ks : List Kept). length (filter (is_unmatched held) ks)) (sym takes_are)
 
-  pub held_rightly : All (IsHeld (world grammar edition) depth table) (filter_map held_of takes)
+  pub held_rightly : All (IsHeld (world grammar edition dialect) depth table) (filter_map held_of takes)
   held_rightly =
-      subst (λ (ks : List Kept). All (IsHeld (world grammar edition) depth table) (filter_map held_of ks)) (sym takes_are)
-      (held_are laws.equal (world grammar edition) depth table news news_are)
+      subst (λ (ks : List Kept). All (IsHeld (world grammar edition dialect) depth table) (filter_map held_of ks)) (sym takes_are)
+      (held_are laws.equal (world grammar edition dialect) depth table news news_are)
 
-  pub looked_is : looked_of (members (layers grammar edition) depth f) ≡ map looked_held (filter_map held_of takes)
+  pub looked_is : looked_of (members (layers grammar edition dialect) depth f) ≡ map looked_held (filter_map held_of takes)
   looked_is =
-      ap looked_of members_are ∙ looked_are_held laws.equal (world grammar edition) depth table tell news news_are
+      ap looked_of members_are ∙ looked_are_held laws.equal (world grammar edition dialect) depth table tell news news_are
       ∙ ap (λ (ks : List Kept). map looked_held (filter_map held_of ks)) (sym takes_are)

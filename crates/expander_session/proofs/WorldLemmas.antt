@@ -1,5 +1,5 @@
 -- What definitions mean does not depend on spans.
-use Rattle.std.proofs.Common.{◌≡◌, ℕ, Bool, true, false, List, Option, Some, None, refl, ap, ◌∙◌, option_map}
+use Rattle.std.proofs.Common.{◌≡◌, ℕ, Bool, true, false, List, Option, Some, None, refl, sym, ap, ◌∙◌, option_map}
 use Rattle.std.specs.Prelude.{if◌then◌else◌, is_some, map}
 use Rattle.tt_data.specs.Forest.{Forest, map_spans}
 use Rattle.tt_data.specs.declared.edition.Edition.{Edition}
@@ -14,13 +14,19 @@ use Rattle.mbe.specs.Bursts as made_by
 use Rattle.mbe.specs.Fit.{fit, fit_with}
 use Rattle.mbe.specs.Grammar.{Grammar}
 use Rattle.mbe.specs.Markers.{is_name}
-use Rattle.expander_scope.proofs.ChangeLemmas.{expansion-with}
+use Rattle.textual_scope.proofs.ChangeLemmas.{scoped-with}
+use Rattle.textual_scope.proofs.RuleLemmas.{top_level}
+use Rattle.textual_scope.specs.ScopeChanges.{scoped_with}
 use Rattle.expander_model.specs.Changes.{outcome_with}
+use Rattle.expander_model.specs.Dialects as dialects
+use Rattle.expander_model.specs.Scoping.{Scoped, without_locals}
+use Rattle.expander_model.specs.declared.scope_rules.Standing.TheVariants.{Top}
 use Rattle.expander_model.specs.Definitions.{Definition}
-use Rattle.expander_model.specs.Expansion.{expansion}
+use Rattle.expander_model.specs.Expansion.{World, expansion}
 use Rattle.expander_model.specs.OtherPlaces.{CommutesWithMarker, LooksAtNoPlace, definition_with}
 use Rattle.expander_model.specs.EditionMarks.{edition_in}
 use Rattle.expander_model.specs.World.{fit_of, made, rules_by, rules_in, world}
+use Rattle.expander_model.specs.declared.dialect.Dialect.{Dialect}
 use Rattle.expander_model.proofs.EditionLemmas.{edition_moved}
 
 -- what the layer below says of rules, of fits and of what they put out
@@ -60,8 +66,8 @@ module _ (laws : RuleLaws) (grammar : Grammar) (edition : Edition) (f : Span →
       ap (option_map (λ r. r.1)) (laws.fits f is_name grammar made commutes rules.list FnLike argument)
       ∙ forest_there (fit is_name grammar made rules.list FnLike argument)
 
-pub world_at_other_places : RuleLaws → (grammar : Grammar) (edition : Edition) → LooksAtNoPlace (world grammar edition)
-world_at_other_places laws grammar edition = record {
+pub world_at_other_places : RuleLaws → (grammar : Grammar) (edition : Edition) (dialect : Dialect) → LooksAtNoPlace (world grammar edition dialect)
+world_at_other_places laws grammar edition dialect = record {
   broken = λ f d. ap (λ (r : Rules). is_some r.err) (rules_there laws grammar edition f d);
   fit = λ f commutes d argument.
       ap (λ (r : Rules). fit_of grammar r (map_spans f argument)) (rules_there laws grammar edition f d)
@@ -72,12 +78,17 @@ world_at_other_places laws grammar edition = record {
 }
 
 -- an expansion of trees at other places
-pub expansion_there : RuleLaws → (grammar : Grammar) (edition : Edition) (f : Span → Span) → CommutesWithMarker f
+pub expansion_there : RuleLaws → (grammar : Grammar) (edition : Edition) (dialect : Dialect) (f : Span → Span) → CommutesWithMarker f
     → (scope : List ℕ → Option Definition) (depth : ℕ) (outer : Option Span) (g : Forest)
-    → expansion (world grammar edition) (λ name. option_map (definition_with f) (scope name)) depth (option_map f outer) (map_spans f g)
-    ≡ outcome_with f (definition_with f) (expansion (world grammar edition) scope depth outer g)
-expansion_there laws grammar edition f commutes scope depth outer g =
-    let no_place : LooksAtNoPlace (world grammar edition) = world_at_other_places laws grammar edition in
-    expansion-with f (definition_with f) (world grammar edition) (world grammar edition)
+    → expansion (world grammar edition dialect) (λ name. option_map (definition_with f) (scope name)) depth (option_map f outer) (map_spans f g)
+    ≡ outcome_with f (definition_with f) (expansion (world grammar edition dialect) scope depth outer g)
+expansion_there laws grammar edition dialect f commutes scope depth outer g =
+    let w : World Definition = world grammar edition dialect in
+    let no_place : LooksAtNoPlace w = world_at_other_places laws grammar edition dialect in
+    let moved : List ℕ → Option Definition = λ name. option_map (definition_with f) (scope name) in
+    ap (λ (a : Scoped Definition). a.outcome)
+    (sym (top_level w (λ d. d) moved depth Top (option_map f outer) (map_spans f g))
+    ∙ scoped-with f (definition_with f) dialects.top_level w w
     (record { broken = no_place.broken f; fit = no_place.fit f commutes; bursts = no_place.bursts f commutes })
-    scope (λ name. option_map (definition_with f) (scope name)) (λ name. refl) depth outer g
+    (λ d. d) (λ d. d) (λ d. refl) scope moved (λ name. refl) depth (without_locals Top outer) g
+    ∙ ap (scoped_with f (definition_with f)) (top_level w (λ d. d) scope depth Top outer g))

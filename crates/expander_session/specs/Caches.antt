@@ -8,8 +8,9 @@ use Rattle.expander_session.specs.Agreement.{scope_of}
 use Rattle.expander_scope.specs.Interning.{AllRead, AreInTable, IsTable, definition_tops, numbers_in}
 use Rattle.expander_session.specs.Count.{Looked}
 use Rattle.expander_model.specs.Definitions.{Definition}
-use Rattle.expander_model.specs.Expansion.{World, expansion}
-use Rattle.expander_model.specs.Held.{Numbered, numbered_world}
+use Rattle.expander_model.specs.Expansion.{World}
+use Rattle.expander_model.specs.Held.{Numbered, numbered_world, unnumbered}
+use Rattle.expander_model.specs.Scoping.{expanded}
 use Rattle.expander_session.specs.CachedOutputs.{Holds}
 use Rattle.expander_session.specs.MemoRefs.{AreLinked, LeadsTo, plain_tops}
 use Rattle.expander_scope.specs.DefinitionTexts.{inner_of}
@@ -42,7 +43,11 @@ LinksTo m link t = LeadsTo (plain_tops m.plains.items) (definition_tops m.defini
 module _ (world : World Definition) (depth : ℕ) where
   -- a plain piece with its whole expansion, each name resolved as its memo says
   abbrev pub piece_of : Memo → HeldPiece
-  piece_of q = record { tree = (tree_of q).inner; outcome = expansion (numbered_world world) (scope_of (finds_of q)) depth None (tree_of q).inner }
+  piece_of q = record {
+    tree = (tree_of q).inner;
+    outcome = expanded (numbered_world world) unnumbered (scope_of (finds_of q)) depth
+        (tree_of q).inner;
+  }
 
   -- a memo's tree is plain and under the top of a text, and its parts are those of its expansion
   pub record IsRight (numbers : Forest → Option ℕ) (q : Memo) : Type 0 where

@@ -15,26 +15,33 @@ use Rattle.expander_scope.specs.DefinitionIds.{AreNumbered, number_by}
 use Rattle.expander_session.specs.Shown.{ShowsMeaning}
 use Rattle.expander_session.specs.TextTurn.{held_of, is_unmatched}
 use Rattle.expander_model.specs.World.{world}
+use Rattle.expander_model.specs.declared.dialect.Dialect.{Dialect}
 use Rattle.expander_session.specs.declared.cache.Cache.{Cache}
 
 -- the pieces of a text after those of a prelude, by these ids
-abbrev pub kept_in : Grammar → Edition → ℕ → (Forest → Option ℕ) → List Forest → List Forest → List Kept
-kept_in grammar edition depth ids prelude ps =
-    kept_after (world grammar edition) depth (number_by ids)
-    (mets_after (world grammar edition) depth (number_by ids) [] prelude) ps
+abbrev pub kept_in : Grammar → Edition → Dialect → ℕ → (Forest → Option ℕ) → List Forest
+    → List Forest → List Kept
+kept_in grammar edition dialect depth ids prelude ps =
+    kept_after (world grammar edition dialect) depth (number_by ids)
+    (mets_after (world grammar edition dialect) depth (number_by ids) [] prelude) ps
 
-module _ (grammar : Grammar) (edition : Edition) (depth : ℕ) (old : Cache) (prelude ps : List Forest) where
+module _ (grammar : Grammar) (edition : Edition) (dialect : Dialect) (depth : ℕ) (old : Cache)
+    (prelude ps : List Forest) where
   -- the pieces, under the ids that are cached afterwards
   abbrev pub pieces_kept : Cache → List Kept
-  pieces_kept new = kept_in grammar edition depth (numbers_in new.by_tree) prelude ps
+  pieces_kept new = kept_in grammar edition dialect depth (numbers_in new.by_tree) prelude ps
 
   -- pieces were evaluated over a cache: what is shown of them, and what is cached afterwards
   pub record EvaluatesText (e : Expanded) (new : Cache) : Type 0 where
-    pub right : IsCache (world grammar edition) depth edition new
+    pub right : IsCache (world grammar edition dialect) depth edition new
     pub was_read : new.was_read ≡ true
     pub numbers : AreNumbered old.given (numbers_in old.by_tree) (trees_of old)
         (definition_trees prelude ++ definition_trees ps) new.given (numbers_in new.by_tree)
     pub trees : trees_of new ≡ definition_trees prelude ++ definition_trees ps
-    pub plains : map (λ q. piece_of (world grammar edition) depth (rc_value q)) new.plains.items ≡ filter_map held_of (pieces_kept new)
-    pub shows : ShowsMeaning (meaning_of (layers grammar edition) (map present (pieces_kept new)))
-        (length (filter (is_unmatched (map (λ q. piece_of (world grammar edition) depth (rc_value q)) old.plains.items)) (pieces_kept new))) e
+    pub plains : map (λ q. piece_of (world grammar edition dialect) depth (rc_value q))
+        new.plains.items ≡ filter_map held_of (pieces_kept new)
+    pub shows : ShowsMeaning
+        (meaning_of (layers grammar edition dialect) (map present (pieces_kept new)))
+        (length (filter (is_unmatched (map
+        (λ q. piece_of (world grammar edition dialect) depth (rc_value q)) old.plains.items))
+        (pieces_kept new))) e

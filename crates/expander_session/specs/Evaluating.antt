@@ -7,8 +7,8 @@ use Rattle.tt_data.specs.Forest.{Forest}
 use Rattle.tt_data.specs.declared.edition.Edition.{Edition}
 use Rattle.expander_scope.specs.Interning.{AllRead, IsTable, definition_tops, numbers_in}
 use Rattle.expander_model.specs.Definitions.{Definition, definition_of}
-use Rattle.expander_model.specs.Expansion.{World, expansion}
-use Rattle.expander_model.specs.Held.{IsMet, Kept, Met, kept_of, mets_after, numbered_world, present, with_met}
+use Rattle.expander_model.specs.Expansion.{World}
+use Rattle.expander_model.specs.Held.{IsMet, Kept, Met, kept_of, mets_after, numbered_world, present, unnumbered, with_met}
 use Rattle.expander_model.specs.DefinitionTrees.{definition_trees}
 use Rattle.expander_session.specs.Layered.{layers}
 use Rattle.expander_session.specs.MemoRefs.{LeadTo, plain_tops}
@@ -20,10 +20,12 @@ use Rattle.expander_scope.specs.DefinitionIds.{number_by, numbered_by}
 use Rattle.expander_scope.specs.NewNumbers.{needed}
 use Rattle.expander_session.specs.Emitting.{HasOutput}
 use Rattle.expander_model.specs.Pieces.{relative}
+use Rattle.expander_model.specs.Scoping.{expanded}
 use Rattle.expander_session.specs.Memos.{AreHashes}
 use Rattle.expander_session.specs.TextTurn.{held_of, is_unmatched}
 use Rattle.expander_session.specs.declared.cache.Cache.{Cache}
 use Rattle.expander_model.specs.World.{world}
+use Rattle.expander_model.specs.declared.dialect.Dialect.{Dialect}
 use Rattle.expander_session.specs.declared.evaluate.Evaluated.{Evaluated}
 use Rattle.expander_session.specs.declared.evaluate.Evaluation.{Evaluation}
 
@@ -71,32 +73,44 @@ module _ (world : World Definition) (edition : Edition) (depth : ℕ) (old : Cac
     pub taken : IsEvaluated trees done now.taken
 
 -- one more definition of a prelude is in scope
-abbrev pub Imports : Grammar → Edition → ℕ → Cache → Forest → Evaluation → Evaluation → Type 0
-Imports grammar edition depth old piece now next =
-    (before : List Met) (trees : List Forest) (done : List Kept) → HasTaken (world grammar edition) edition depth old (layers grammar edition) before trees done now
-    → HasTaken (world grammar edition) edition depth old (layers grammar edition)
-    (with_met (world grammar edition) depth (number_by (numbers_in next.taken.numbers.by_tree)) piece (definition_of (relative piece)) before)
+abbrev pub Imports : Grammar → Edition → Dialect → ℕ → Cache → Forest → Evaluation → Evaluation
+    → Type 0
+Imports grammar edition dialect depth old piece now next =
+    let w : World Definition = world grammar edition dialect in
+    let l : Layers = layers grammar edition dialect in
+    let number_of : Forest → ℕ = number_by (numbers_in next.taken.numbers.by_tree) in
+    (before : List Met) (trees : List Forest) (done : List Kept)
+    → HasTaken w edition depth old l before trees done now
+    → HasTaken w edition depth old l
+    (with_met w depth number_of piece (definition_of (relative piece)) before)
     (trees ++ definition_trees (piece ∷ [])) done next
 
 -- a prelude is in scope, and no piece of the text is evaluated
-abbrev pub HasImported : Grammar → Edition → ℕ → Cache → List Forest → Evaluation → Type 0
-HasImported grammar edition depth old prelude now =
-    HasTaken (world grammar edition) edition depth old (layers grammar edition)
-    (mets_after (world grammar edition) depth (number_by (numbers_in now.taken.numbers.by_tree)) [] prelude)
-    (definition_trees prelude) [] now
+abbrev pub HasImported : Grammar → Edition → Dialect → ℕ → Cache → List Forest → Evaluation → Type 0
+HasImported grammar edition dialect depth old prelude now =
+    let w : World Definition = world grammar edition dialect in
+    let number_of : Forest → ℕ = number_by (numbers_in now.taken.numbers.by_tree) in
+    HasTaken w edition depth old (layers grammar edition dialect)
+    (mets_after w depth number_of [] prelude) (definition_trees prelude) [] now
 
 -- one more piece is evaluated
-abbrev pub Evaluates : Grammar → Edition → ℕ → Cache → Forest → Evaluation → Evaluation → Type 0
-Evaluates grammar edition depth old piece now next =
-    (before : List Met) (trees : List Forest) (done : List Kept) → HasTaken (world grammar edition) edition depth old (layers grammar edition) before trees done now
-    → HasTaken (world grammar edition) edition depth old (layers grammar edition)
-    (with_met (world grammar edition) depth (number_by (numbers_in next.taken.numbers.by_tree)) piece (definition_of (relative piece)) before)
+abbrev pub Evaluates : Grammar → Edition → Dialect → ℕ → Cache → Forest → Evaluation → Evaluation
+    → Type 0
+Evaluates grammar edition dialect depth old piece now next =
+    let w : World Definition = world grammar edition dialect in
+    let l : Layers = layers grammar edition dialect in
+    let number_of : Forest → ℕ = number_by (numbers_in next.taken.numbers.by_tree) in
+    (before : List Met) (trees : List Forest) (done : List Kept)
+    → HasTaken w edition depth old l before trees done now
+    → HasTaken w edition depth old l
+    (with_met w depth number_of piece (definition_of (relative piece)) before)
     (trees ++ definition_trees (piece ∷ []))
-    (done ++ kept_of (world grammar edition) depth (number_by (numbers_in next.taken.numbers.by_tree)) before piece (definition_of (relative piece)) ∷ [])
-    next
+    (done ++ kept_of w depth number_of before piece (definition_of (relative piece)) ∷ []) next
 
 -- the piece is plain, and its expansion makes too many tokens
-abbrev pub MakesTooMany : Grammar → Edition → ℕ → Forest → Evaluation → Type 0
-MakesTooMany grammar edition depth piece now =
+abbrev pub MakesTooMany : Grammar → Edition → Dialect → ℕ → Forest → Evaluation → Type 0
+MakesTooMany grammar edition dialect depth piece now =
+    let w : World Definition = world grammar edition dialect in
     (definition_of (relative piece) ≡ None)
-    × ((expansion (numbered_world (world grammar edition)) (scope_in now.scope) depth None (relative piece)).bursts ≡ true)
+    × ((expanded (numbered_world w) unnumbered (scope_in now.scope) depth (relative piece)).bursts
+    ≡ true)

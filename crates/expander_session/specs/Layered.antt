@@ -5,7 +5,12 @@ use Rattle.mbe.specs.Grammar.{Grammar}
 use Rattle.expander_model.specs.Meaning.{Layers}
 use Rattle.expander_model.specs.Printing.{spelling_before}
 use Rattle.expander_model.specs.World.{world}
+use Rattle.expander_model.specs.declared.dialect.Dialect.{Dialect}
 
--- the layers for a grammar's answers and an edition
-abbrev pub layers : Grammar → Edition → Layers
-layers grammar edition = record { read = text_reading; world = world grammar edition; spelling = spelling_before }
+-- the layers for a grammar's answers, an edition and a dialect
+abbrev pub layers : Grammar → Edition → Dialect → Layers
+layers grammar edition dialect = record {
+  read = text_reading;
+  world = world grammar edition dialect;
+  spelling = spelling_before;
+}

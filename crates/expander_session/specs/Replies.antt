@@ -85,6 +85,7 @@ module _ (layers : Layers) where
     pub text : new.text ≡ old.text
     pub grammar : new.grammar ≡ old.grammar
     pub edition : new.edition ≡ old.edition
+    pub dialect : new.dialect ≡ old.dialect
     pub depth : new.depth ≡ old.depth
     pub prelude : new.prelude ≡ old.prelude
     pub held : new.held ≡ Some (looked_in (meaning_of_state layers old))

@@ -6,8 +6,9 @@ use Rattle.expander_session.specs.Agreement.{scope_of}
 use Rattle.expander_session.specs.Count.{Looked}
 use Rattle.expander_model.specs.EqualTrees.{same_forest}
 use Rattle.expander_model.specs.Definitions.{Definition}
-use Rattle.expander_model.specs.Expansion.{Outcome, World, expansion}
-use Rattle.expander_model.specs.Held.{IsNumbered, Numbered, numbered_world}
+use Rattle.expander_model.specs.Expansion.{Outcome, World}
+use Rattle.expander_model.specs.Held.{IsNumbered, Numbered, numbered_world, unnumbered}
+use Rattle.expander_model.specs.Scoping.{expanded}
 
 -- a plain piece with piece-relative spans, and its expansion result
 pub record HeldPiece : Type 0 where
@@ -40,7 +41,8 @@ FoundIs P (name, Some d) = P d
 
 -- what holds of a cached piece: its result is its expansion in the scope of its look-ups
 pub record IsHeld (world : World Definition) (depth : ℕ) (table : Forest → ℕ → Type 0) (q : HeldPiece) : Type 0 where
-  pub is : q.outcome ≡ expansion (numbered_world world) (scope_of q.outcome.finds) depth None q.tree
+  pub is : q.outcome
+      ≡ expanded (numbered_world world) unnumbered (scope_of q.outcome.finds) depth q.tree
   pub finds : All (FoundIs (IsNumbered table)) q.outcome.finds
 
 -- the piece as the count sees it

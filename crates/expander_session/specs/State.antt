@@ -9,14 +9,18 @@ use Rattle.mbe.specs.Grammar.{Grammar}
 use Rattle.expander_session.specs.Count.{Looked}
 use Rattle.expander_session.specs.Layered.{layers}
 use Rattle.expander_model.specs.Definitions.{Definition}
+use Rattle.expander_model.specs.contracts.dialect.Dialect as dialect_row
+use Rattle.expander_model.specs.declared.dialect.Dialect.{Dialect}
 use Rattle.expander_model.specs.Meaning.{Layers, definitions_after}
 
--- a text, the grammar and the edition in which it is expanded, the number of levels of calls, the
--- definitions that it is expanded after, and what is cached of the last text that was read
+-- a text, the grammar, the edition and the dialect in which it is expanded, the number of levels
+-- of calls, the definitions that it is expanded after, and what is cached of the last text that was
+-- read
 pub record State (G : Type 0) : Type 0 where
   pub text : List ℕ
   pub grammar : G
   pub edition : Edition
+  pub dialect : Dialect
   pub depth : ℕ
   -- pieces of other texts, each a definition, in order: a later one of the same name is nearer
   pub prelude : List Forest
@@ -37,19 +41,26 @@ looked_code =
 -- a session is stored as its parts
 abbrev pub state_code : {G : Type 0} → Coded G → Coded (State G)
 state_code {G} grammar =
-    code_by (List ℕ × (G × (Edition × (ℕ × (List Forest × (Option (List Looked) × (List Forest × ℕ)))))))
-    (coded× (coded_list coded_ℕ) (coded× grammar (coded× edition_row.the_row.coded (coded× coded_ℕ (coded× (coded_list forest_code)
-    (coded× (coded_option (coded_list looked_code)) (coded× (coded_list forest_code) coded_ℕ)))))))
-    (λ s. (s.text, (s.grammar, (s.edition, (s.depth, (s.prelude, (s.held, (s.trees, s.given))))))))
+    code_by ((List ℕ × (G × (Edition × Dialect)))
+    × (ℕ × (List Forest × (Option (List Looked) × (List Forest × ℕ)))))
+    (coded× (coded× (coded_list coded_ℕ)
+    (coded× grammar (coded× edition_row.the_row.coded dialect_row.the_row.coded)))
+    (coded× coded_ℕ (coded× (coded_list forest_code)
+    (coded× (coded_option (coded_list looked_code)) (coded× (coded_list forest_code) coded_ℕ)))))
+    (λ s. (
+      (s.text, (s.grammar, (s.edition, s.dialect))),
+      (s.depth, (s.prelude, (s.held, (s.trees, s.given)))),
+    ))
     (λ p. record {
-      text = p.0;
-      grammar = p.1.0;
-      edition = p.1.1.0;
-      depth = p.1.1.1.0;
-      prelude = p.1.1.1.1.0;
-      held = p.1.1.1.1.1.0;
-      trees = p.1.1.1.1.1.1.0;
-      given = p.1.1.1.1.1.1.1;
+      text = p.0.0;
+      grammar = p.0.1.0;
+      edition = p.0.1.1.0;
+      dialect = p.0.1.1.1;
+      depth = p.1.0;
+      prelude = p.1.1.0;
+      held = p.1.1.1.0;
+      trees = p.1.1.1.1.0;
+      given = p.1.1.1.1.1;
     })
     (λ _. refl)
 
@@ -59,4 +70,4 @@ definitions_of prelude = definitions_after [] prelude
 
 -- what the meaning of a session's text is built on, where the grammars give these answers
 abbrev pub layers_of : {G : Type 0} → (G → Grammar) → State G → Layers
-layers_of answer state = layers (answer state.grammar) state.edition
+layers_of answer state = layers (answer state.grammar) state.edition state.dialect

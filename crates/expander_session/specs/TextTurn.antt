@@ -4,12 +4,13 @@ use Rattle.std.specs.List.{list_any}
 use Rattle.bridge.specs.TokenSteps.{text_reading}
 use Rattle.tt_data.specs.Forest.{Forest}
 use Rattle.expander_model.specs.Definitions.{Definition, definition_of}
-use Rattle.expander_model.specs.Expansion.{Outcome, World, expansion}
-use Rattle.expander_model.specs.Held.{IsMet, Kept, Known, Met, Numbered, StandFrom, StandFromFirst, TellsApart, kept, met, met_of, numbered_scope, numbered_world, with_met}
+use Rattle.expander_model.specs.Expansion.{Outcome, World}
+use Rattle.expander_model.specs.Held.{IsMet, Kept, Known, Met, Numbered, StandFrom, StandFromFirst, TellsApart, kept, met, met_of, numbered_scope, numbered_world, unnumbered, with_met}
 use Rattle.expander_model.specs.DefinitionTrees.{definition_trees}
 use Rattle.expander_model.specs.EqualTrees.{same_forest}
 use Rattle.expander_scope.specs.Numbers.{AreEntries, Entry, Numbering, number_of, tree_of, with_trees}
 use Rattle.expander_model.specs.Pieces.{first_start, pieces, relative}
+use Rattle.expander_model.specs.Scoping.{expanded}
 use Rattle.expander_session.specs.Reuse.{HeldPiece, IsHeld, matches, reused_outcome}
 
 -- a plain piece for which no cached piece is valid
@@ -24,7 +25,8 @@ module _ (world : World Definition) (depth : ℕ) (number_of : Forest → ℕ) (
   taken_of before piece None =
       let tree : Forest = relative piece in
       kept (first_start piece) before tree
-      (reused_outcome (find (matches (numbered_scope before) tree) held) (expansion (numbered_world world) (numbered_scope before) depth None tree))
+      (reused_outcome (find (matches (numbered_scope before) tree) held)
+      (expanded (numbered_world world) unnumbered (numbered_scope before) depth tree))
 
   -- the pieces of a text in order: each with the first valid cached result, or else a new one
   abbrev pub taken_after : List Met → List Forest → List Kept
@@ -53,7 +55,7 @@ pub record IsPlain (world : World Definition) (depth : ℕ) (table : Forest → 
   pub from : StandFromFirst piece
   pub start : at ≡ first_start piece
   pub tree : t ≡ relative piece
-  pub outcome : o ≡ expansion (numbered_world world) (numbered_scope before) depth None t
+  pub outcome : o ≡ expanded (numbered_world world) unnumbered (numbered_scope before) depth t
 
 -- a piece of a text, plain or a definition
 abbrev pub IsKept : World Definition → ℕ → (Forest → ℕ → Type 0) → Kept → Type 0

@@ -2,6 +2,7 @@
 ghost use Rattle.std.specs.Prelude.{◌<◌, ◌^◌, [], length, IfOk};
 ghost use Rattle.expander_session.specs.Answers.{AreAnswers, given, last_reads};
 ghost use Rattle.expander_session.specs.CommandTurns.{Edits, Turn};
+ghost use Rattle.expander_model.specs.Dialects.{top_level};
 ghost use Rattle.expander_session.specs.Layered.{layers};
 ghost use Rattle.expander_session.specs.State.{layers_of};
 
@@ -38,8 +39,9 @@ pub enum Answer {
     Refused(Refusal),
 }
 
-/// The answers to these commands, one to each, in order, by a new session over this text. Each is
-/// by the text at its turn. The text has at most `u32::MAX` bytes.
+/// The answers to these commands, one to each, in order, by a new session over this text, with no
+/// option of the dialect set. Each is by the text at its turn. The text has at most `u32::MAX`
+/// bytes.
 ///
 /// Its only error is out of memory, for the session or the list of answers. At most `u32::MAX`
 /// definitions get an id in all the texts that are read: `numbers`.
@@ -53,10 +55,10 @@ pub fn replay<G: FragmentGrammar + Drop>(
 ) -> Result<Vec<Answer>, AllocError>
     requires { length text.now < 2 ^ 32 }
     ensures answers { IfOk result (λ answers.
-        AreAnswers (layers (G.answer grammar) edition) depth text.now [] commands.now
+        AreAnswers (layers (G.answer grammar) edition top_level) depth text.now [] commands.now
         answers.items) }
     ensures numbers { IfOk result (λ answers.
-        given (layers (G.answer grammar) edition) depth
+        given (layers (G.answer grammar) edition top_level) depth
         (last_reads text.now [] commands.now answers.items) < 2 ^ 32) }
 {
     let mut session = Session::new(alloc, text, grammar, edition, depth)?;

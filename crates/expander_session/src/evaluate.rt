@@ -21,6 +21,7 @@ ghost use Rattle.expander_session.specs.CachedOutputs.{Holds};
 ghost use Rattle.expander_session.specs.Layered.{layers};
 ghost use Rattle.expander_session.specs.MemoRefs.{plain_tops};
 ghost use Rattle.expander_model.specs.Meaning.{members_after};
+ghost use Rattle.expander_model.specs.declared.dialect.Dialect.{Dialect};
 ghost use Rattle.expander_session.specs.Caches.{IsCache, IsRight, piece_of, trees_of};
 ghost use Rattle.expander_scope.specs.ScopeTable.{AreRead, HasMet, expanded_under, scope_in};
 ghost use Rattle.expander_scope.specs.DefinitionTexts.{HasNumbered};
@@ -52,6 +53,7 @@ use crate::memo_ref::MemoRef;
 use crate::new_memo::{expanded, shared};
 use crate::recent_memos::RecentMemos;
 use bridge::parts::Place;
+use expander_model::dialect::Dialect;
 use expander_model::fault::Fault;
 use expander_model::hashed_tree::HashedTree;
 use expander_model::laws;
@@ -69,8 +71,8 @@ use std::alloc::{AllocError, Global};
 use std::rc::Rc;
 use tt_data::{Edition, TtFault};
 
-/// What the pieces of a text are evaluated by: the grammar, how many levels of calls may be
-/// expanded, and the cache of the last text that was read.
+/// What the pieces of a text are evaluated by: the grammar, the dialect, how many levels of calls
+/// may be expanded, and the cache of the last text that was read.
 ///
 /// `Session::expansion` makes one for each text. It is the same for all pieces.
 #[derive(Drop)]
@@ -78,6 +80,8 @@ pub(crate) struct EvaluationContext<'a, G> {
     pub alloc: Global,
     /// Decides what fragments are.
     pub grammar: &'a G,
+    /// By which options pieces are expanded.
+    pub dialect: Dialect,
     /// How many levels of calls may be expanded.
     pub depth: u8,
     /// What is cached of the last text. The new text changes none of it.
@@ -99,16 +103,16 @@ fn fresh_memo<G: FragmentGrammar>(
     ensures tree { IfOk result (λ q. tree_of q.value ≡ tree.now.value) }
     ensures holds { (given : ℕ) (numbers : Forest → Option ℕ) (before : List Met) →
         AreNumbers given numbers →
-        All (λ q. IsRight (world (G.answer env.now.grammar.now) env.now.scope.now.edition)
-        env.now.depth numbers (rc_value q)) taken.now.plains.items →
+        All (λ q. IsRight (world (G.answer env.now.grammar.now) env.now.scope.now.edition
+        env.now.dialect) env.now.depth numbers (rc_value q)) taken.now.plains.items →
         scope_in env.now.scope.now ≡ numbered_scope before →
         All (IsMet (numbered_by numbers)) before →
         IfOk result (λ q. Holds q.value (parts_of
-        (expanded_under (G.answer env.now.grammar.now) env.now.scope.now env.now.depth
-        tree.now.value.inner))) }
+        (expanded_under (G.answer env.now.grammar.now) env.now.scope.now env.now.dialect
+        env.now.depth tree.now.value.inner))) }
     ensures tokens { result ≡ Err TtFault.Tokens →
-        (expanded_under (G.answer env.now.grammar.now) env.now.scope.now env.now.depth
-        tree.now.value.inner).bursts ≡ true }
+        (expanded_under (G.answer env.now.grammar.now) env.now.scope.now env.now.dialect
+        env.now.depth tree.now.value.inner).bursts ≡ true }
 {
     laws::equal_pieces();
     tt::laws::equal_trees();
@@ -140,29 +144,28 @@ pub(crate) fn evaluate_tree<G: FragmentGrammar>(
     requires link { IfSome link (λ i. slice_get (plain_tops memory.now.plains.items) i
         ≡ Some tree.now.value) }
     requires top { tree.now.value.delimiter ≡ text_top }
-    requires right { IsCache (world (G.answer env.now.grammar.now) env.now.scope.now.edition)
-        env.now.depth env.now.scope.now.edition memory.now }
+    requires right { IsCache (world (G.answer env.now.grammar.now) env.now.scope.now.edition
+        env.now.dialect) env.now.depth env.now.scope.now.edition memory.now }
     ensures lookup { OnOk result (IndexesMemos lookup.new memory.now.plains.items) }
     ensures tree { IfOk result (λ r. tree_of r.0.value ≡ tree.now.value) }
     ensures hash { IfOk result (λ r. r.2 ≡ tree_hash tree.now.value) }
     ensures holds { (given : ℕ) (numbers : Forest → Option ℕ) (before : List Met) →
         AreNumbers given numbers →
         ((t : Forest) (n : ℕ) → numbers_in memory.now.by_tree t ≡ Some n → numbers t ≡ Some n) →
-        All (λ q. IsRight (world (G.answer env.now.grammar.now) env.now.scope.now.edition)
-        env.now.depth numbers (rc_value q)) taken.now.plains.items →
+        All (λ q. IsRight (world (G.answer env.now.grammar.now) env.now.scope.now.edition
+        env.now.dialect) env.now.depth numbers (rc_value q)) taken.now.plains.items →
         scope_in env.now.scope.now ≡ numbered_scope before →
         All (IsMet (numbered_by numbers)) before →
         IfOk result (λ r. Holds r.0.value (parts_of
-        (expanded_under (G.answer env.now.grammar.now) env.now.scope.now env.now.depth
-        tree.now.value.inner))) }
+        (expanded_under (G.answer env.now.grammar.now) env.now.scope.now env.now.dialect
+        env.now.depth tree.now.value.inner))) }
     ensures counted { IfOk result (λ r. is_some r.1
         ≡ list_any (matches (scope_in env.now.scope.now) tree.now.value.inner) (map
-        (λ q. piece_of (world (G.answer env.now.grammar.now) env.now.scope.now.edition)
-        env.now.depth (rc_value q))
-        memory.now.plains.items)) }
+        (λ q. piece_of (world (G.answer env.now.grammar.now) env.now.scope.now.edition
+        env.now.dialect) env.now.depth (rc_value q)) memory.now.plains.items)) }
     ensures tokens { result ≡ Err TtFault.Tokens →
-        (expanded_under (G.answer env.now.grammar.now) env.now.scope.now env.now.depth
-        tree.now.value.inner).bursts ≡ true }
+        (expanded_under (G.answer env.now.grammar.now) env.now.scope.now env.now.dialect
+        env.now.depth tree.now.value.inner).bursts ≡ true }
 {
     laws::equal_pieces();
     tt::laws::equal_trees();
@@ -237,10 +240,11 @@ fn nothing_numbered(alloc: Global, given: u32, count: usize) -> Result<Definitio
 // then stays below it for the next text, and is not given back to the system each time.
 fn nothing_evaluated(alloc: Global, memory: &Cache, room: Room) -> Result<Evaluated, AllocError>
     ensures links { IfOk result (λ taken. AreLinks taken []) }
-    ensures taken { IfOk result (λ taken. (grammar : Grammar) (edition : Edition) (depth : ℕ) →
-        IsCache (world grammar edition) depth edition memory.now →
-        IsEvaluated (world grammar edition) edition depth memory.now (layers grammar edition) []
-        [] taken) }
+    ensures taken { IfOk result (λ taken. (grammar : Grammar) (edition : Edition)
+        (dialect : Dialect) (depth : ℕ) →
+        IsCache (world grammar edition dialect) depth edition memory.now →
+        IsEvaluated (world grammar edition dialect) edition depth memory.now
+        (layers grammar edition dialect) [] [] taken) }
 {
     let steps = no_steps(alloc, room.bytes, room.pieces)?;
     let numbers = nothing_numbered(alloc, memory.given, room.definitions)?;
@@ -266,10 +270,10 @@ fn nothing_yet(
     room: Room,
 ) -> Result<Evaluation, AllocError>
     ensures links { IfOk result (λ now. AreLinks now.taken []) }
-    ensures taken { IfOk result (λ now. (grammar : Grammar) (depth : ℕ) →
-        IsCache (world grammar edition) depth edition memory.now →
-        IsEvaluated (world grammar edition) edition depth memory.now (layers grammar edition) [] []
-        now.taken) }
+    ensures taken { IfOk result (λ now. (grammar : Grammar) (dialect : Dialect) (depth : ℕ) →
+        IsCache (world grammar edition dialect) depth edition memory.now →
+        IsEvaluated (world grammar edition dialect) edition depth memory.now
+        (layers grammar edition dialect) [] [] now.taken) }
     ensures none { IfOk result (λ now. HasMet now.scope []) }
     ensures edition { IfOk result (λ now. now.scope.edition ≡ edition) }
     ensures read { IfOk result (λ now. AreRead now.scope) }
@@ -307,11 +311,11 @@ fn evaluate_definition(
     requires top { tree.value.delimiter ≡ text_top }
     requires held { IfSome held (λ k. known_in memory.now.by_tree tree.value ≡ Some k.now.value) }
     requires can { CanDefine memory.now now.old }
-    ensures taken { (grammar : Grammar) (depth : ℕ) (piece : Forest) →
-        LooksAtNoPlace (world grammar now.old.scope.edition) →
+    ensures taken { (grammar : Grammar) (dialect : Dialect) (depth : ℕ) (piece : Forest) →
+        LooksAtNoPlace (world grammar now.old.scope.edition dialect) →
         HaveNumbers (numbers_in memory.now.by_tree) (trees_of memory.now) →
         own_place start ≡ first_place piece → tree.value ≡ own_top (relative piece) →
-        OnOk result (Evaluates grammar now.old.scope.edition depth memory.now piece
+        OnOk result (Evaluates grammar now.old.scope.edition dialect depth memory.now piece
         now.old now.new) }
     ensures links { (trees : List Top) → AreLinks now.old.taken trees →
         OnOk result (AreLinks now.new.taken (trees ++ tree.value ∷ [])) }
@@ -353,8 +357,9 @@ fn evaluate_import(
     requires import { IsImport import.now }
     requires have { HaveNumbers (numbers_in memory.now.by_tree) (trees_of memory.now) }
     requires can { CanDefine memory.now now.old }
-    ensures taken { (grammar : Grammar) (depth : ℕ) → OnOk result (Imports grammar
-        now.old.scope.edition depth memory.now (import_piece import.now) now.old now.new) }
+    ensures taken { (grammar : Grammar) (dialect : Dialect) (depth : ℕ) →
+        OnOk result (Imports grammar now.old.scope.edition dialect depth memory.now
+        (import_piece import.now) now.old now.new) }
     ensures links { AreLinks now.old.taken [] → OnOk result (AreLinks now.new.taken []) }
     ensures grows { OnOk result (Grows now.old.taken now.new.taken) }
     ensures edition { OnOk result (now.new.scope.edition ≡ now.old.scope.edition) }
@@ -380,12 +385,14 @@ fn evaluate_imports<G: FragmentGrammar>(
     edition: Edition,
     now: &mut Evaluation,
 ) -> Result<(), Refusal>
-    requires right { IsCache (world (G.answer context.now.grammar.now) edition)
+    requires right { IsCache
+        (world (G.answer context.now.grammar.now) edition context.now.dialect)
         context.now.depth edition context.now.memory.now }
-    requires none { HasImported (G.answer context.now.grammar.now) edition context.now.depth
-        context.now.memory.now [] now.old }
+    requires none { HasImported (G.answer context.now.grammar.now) edition context.now.dialect
+        context.now.depth context.now.memory.now [] now.old }
     ensures taken { OnOk result (HasImported (G.answer context.now.grammar.now) edition
-        context.now.depth context.now.memory.now context.now.prelude.now now.new) }
+        context.now.dialect context.now.depth context.now.memory.now context.now.prelude.now
+        now.new) }
     ensures stands { OnOk result (All Stands context.now.prelude.now) }
     ensures links { AreLinks now.old.taken [] → OnOk result (AreLinks now.new.taken []) }
     ensures lookup { OnOk result (now.new.lookup ≡ now.old.lookup) }
@@ -411,15 +418,15 @@ fn emit_anew<G: FragmentGrammar>(
     requires { AreRead env.now.scope.now }
     ensures steps { OnOk result (PutsOut steps.old steps.new
         (resolved_steps start env.now.scope.now.starts
-        (expanded_under (G.answer env.now.grammar.now) env.now.scope.now env.now.depth
-        tree.value.inner).steps)) }
+        (expanded_under (G.answer env.now.grammar.now) env.now.scope.now env.now.dialect
+        env.now.depth tree.value.inner).steps)) }
     ensures tree { IfOk result (λ q. tree_of q.value ≡ tree.value) }
     ensures holds { IfOk result (λ q. Holds q.value (parts_of
-        (expanded_under (G.answer env.now.grammar.now) env.now.scope.now env.now.depth
-        tree.value.inner))) }
+        (expanded_under (G.answer env.now.grammar.now) env.now.scope.now env.now.dialect
+        env.now.depth tree.value.inner))) }
     ensures tokens { result ≡ Err TtFault.Tokens →
-        (expanded_under (G.answer env.now.grammar.now) env.now.scope.now env.now.depth
-        tree.value.inner).bursts ≡ true }
+        (expanded_under (G.answer env.now.grammar.now) env.now.scope.now env.now.dialect
+        env.now.depth tree.value.inner).bursts ≡ true }
 {
     let alloc = env.alloc;
     let own = tree.as_ref().tree();
@@ -445,17 +452,17 @@ fn emit_output<G: FragmentGrammar>(
 ) -> Result<Rc<Memo>, TtFault>
     requires { AreRead env.now.scope.now }
     ensures steps { let given = expanded_under (G.answer env.now.grammar.now) env.now.scope.now
-        env.now.depth
-        (tree_of plain.value).inner in Holds plain.value (parts_of given) →
+        env.now.dialect env.now.depth (tree_of plain.value).inner in
+        Holds plain.value (parts_of given) →
         OnOk result (PutsOut steps.old steps.new
         (resolved_steps start env.now.scope.now.starts given.steps)) }
     ensures tree { IfOk result (λ q. tree_of q.value ≡ tree_of plain.value) }
     ensures holds { let given = expanded_under (G.answer env.now.grammar.now) env.now.scope.now
-        env.now.depth
-        (tree_of plain.value).inner in Holds plain.value (parts_of given) →
+        env.now.dialect env.now.depth (tree_of plain.value).inner in
+        Holds plain.value (parts_of given) →
         IfOk result (λ q. Holds q.value (parts_of given)) }
     ensures tokens { result ≡ Err TtFault.Tokens →
-        (expanded_under (G.answer env.now.grammar.now) env.now.scope.now
+        (expanded_under (G.answer env.now.grammar.now) env.now.scope.now env.now.dialect
         env.now.depth (tree_of plain.value).inner).bursts ≡ true }
 {
     let (alloc, starts) = (env.alloc, &env.scope.starts);
@@ -485,19 +492,19 @@ fn emit_plain<G: FragmentGrammar>(
 ) -> Result<Rc<Memo>, TtFault>
     requires { AreRead env.now.scope.now }
     ensures steps { let given = expanded_under (G.answer env.now.grammar.now) env.now.scope.now
-        env.now.depth
-        (tree_of plain.value).inner in Holds plain.value (parts_of given) →
+        env.now.dialect env.now.depth (tree_of plain.value).inner in
+        Holds plain.value (parts_of given) →
         OnOk result (PutsOut steps.old steps.new
         (resolved_steps start env.now.scope.now.starts given.steps)) }
     ensures faults { IfOk result (λ q. faults.new.items
         ≡ faults.old.items ++ resolved_faults start env.now.scope.now.starts q.value.faults.items) }
     ensures tree { IfOk result (λ q. tree_of q.value ≡ tree_of plain.value) }
     ensures holds { let given = expanded_under (G.answer env.now.grammar.now) env.now.scope.now
-        env.now.depth
-        (tree_of plain.value).inner in Holds plain.value (parts_of given) →
+        env.now.dialect env.now.depth (tree_of plain.value).inner in
+        Holds plain.value (parts_of given) →
         IfOk result (λ q. Holds q.value (parts_of given)) }
     ensures tokens { result ≡ Err TtFault.Tokens →
-        (expanded_under (G.answer env.now.grammar.now) env.now.scope.now
+        (expanded_under (G.answer env.now.grammar.now) env.now.scope.now env.now.dialect
         env.now.depth (tree_of plain.value).inner).bursts ≡ true }
 {
     let plain = emit_output(env, steps, start, plain)?;
@@ -556,13 +563,13 @@ fn evaluate_plain<G: FragmentGrammar>(
     requires lookup { IndexesMemos now.old.lookup context.now.memory.now.plains.items }
     requires link { IfSome link (λ i. slice_get (plain_tops context.now.memory.now.plains.items) i
         ≡ Some tree.now.value) }
-    requires right { IsCache (world (G.answer context.now.grammar.now) now.old.scope.edition)
-        context.now.depth now.old.scope.edition context.now.memory.now }
+    requires right { IsCache (world (G.answer context.now.grammar.now) now.old.scope.edition
+        context.now.dialect) context.now.depth now.old.scope.edition context.now.memory.now }
     requires room { now.old.taken.expanded + 1 < 2 ^ 64 }
     ensures taken { (piece : Forest) → start ≡ first_start piece → tree.now.value
         ≡ own_top (relative piece) →
         OnOk result (Evaluates (G.answer context.now.grammar.now) now.old.scope.edition
-        context.now.depth context.now.memory.now piece now.old now.new) }
+        context.now.dialect context.now.depth context.now.memory.now piece now.old now.new) }
     ensures links { (trees : List Top) → AreLinks now.old.taken trees →
         OnOk result (AreLinks now.new.taken (trees ++ tree.now.value ∷ [])) }
     ensures numbers { OnOk result (now.new.taken.numbers ≡ now.old.taken.numbers) }
@@ -570,7 +577,7 @@ fn evaluate_plain<G: FragmentGrammar>(
     ensures lookup { OnOk result (IndexesMemos now.new.lookup context.now.memory.now.plains.items) }
     ensures expanded { OnOk result (now.new.taken.expanded ≤ now.old.taken.expanded + 1) }
     ensures tokens { result ≡ Err TtFault.Tokens →
-        (expanded_under (G.answer context.now.grammar.now) now.old.scope
+        (expanded_under (G.answer context.now.grammar.now) now.old.scope context.now.dialect
         context.now.depth tree.now.value.inner).bursts ≡ true }
 {
     laws::equal_pieces();
@@ -578,6 +585,7 @@ fn evaluate_plain<G: FragmentGrammar>(
         alloc: context.alloc,
         grammar: context.grammar,
         scope: &now.scope,
+        dialect: context.dialect,
         depth: context.depth,
     };
     let (taken, lookup) = (&mut now.taken, &mut now.lookup);
@@ -601,17 +609,18 @@ fn evaluate_piece<G: FragmentGrammar>(
     now: &mut Evaluation,
     own: &Piece,
 ) -> Result<(), Refusal>
-    requires right { IsCache (world (G.answer context.now.grammar.now) now.old.scope.edition)
-        context.now.depth now.old.scope.edition context.now.memory.now }
+    requires right { IsCache (world (G.answer context.now.grammar.now) now.old.scope.edition
+        context.now.dialect) context.now.depth now.old.scope.edition context.now.memory.now }
     requires can { CanDefine context.now.memory.now now.old }
     requires places { LooksAtNoPlace
-        (world (G.answer context.now.grammar.now) now.old.scope.edition) }
+        (world (G.answer context.now.grammar.now) now.old.scope.edition context.now.dialect) }
     requires room { now.old.taken.expanded + 1 < 2 ^ 64 }
     requires lookup { IndexesMemos now.old.lookup context.now.memory.now.plains.items }
     requires own { IsOwn (piece_at own.now) own.now }
     requires met { IsMetIn context.now.memory.now.sources own.now.met (tree_at own.now) }
     ensures taken { OnOk result (Evaluates (G.answer context.now.grammar.now) now.old.scope.edition
-        context.now.depth context.now.memory.now (piece_at own.now) now.old now.new) }
+        context.now.dialect context.now.depth context.now.memory.now (piece_at own.now)
+        now.old now.new) }
     ensures links { (trees : List Top) → AreLinks now.old.taken trees →
         OnOk result (AreLinks now.new.taken (trees ++ tree_at own.now ∷ [])) }
     ensures grows { OnOk result (Grows now.old.taken now.new.taken) }
@@ -619,8 +628,8 @@ fn evaluate_piece<G: FragmentGrammar>(
     ensures lookup { OnOk result (IndexesMemos now.new.lookup context.now.memory.now.plains.items) }
     ensures expanded { OnOk result (now.new.taken.expanded ≤ now.old.taken.expanded + 1) }
     ensures tokens { result ≡ Err Refusal.Tokens →
-        MakesTooMany (G.answer context.now.grammar.now) now.old.scope.edition context.now.depth
-        (piece_at own.now) now.old }
+        MakesTooMany (G.answer context.now.grammar.now) now.old.scope.edition
+        context.now.dialect context.now.depth (piece_at own.now) now.old }
     ensures cause { let memory = context.now.memory.now in (trees : List Forest) →
         HasNumbered memory.given memory.by_tree (trees_of memory) trees now.old.taken.numbers →
         result ≡ Err Refusal.Numbers →
@@ -653,20 +662,23 @@ pub(crate) fn evaluate_pieces<G: FragmentGrammar>(
     pieces: &[Piece],
     bytes: usize,
 ) -> Result<Evaluated, Refusal>
-    requires right { IsCache (world (G.answer context.now.grammar.now) edition)
+    requires right { IsCache (world (G.answer context.now.grammar.now) edition context.now.dialect)
         context.now.depth edition context.now.memory.now }
     requires own { All IsOwnPiece pieces.now }
     requires met { AreMet context.now.memory.now.sources pieces.now }
     ensures taken { let grammar = G.answer context.now.grammar.now in
-        let depth = context.now.depth in let prelude = context.now.prelude.now in
+        let dialect = context.now.dialect in let depth = context.now.depth in
+        let prelude = context.now.prelude.now in
         let trees = map piece_at pieces.now in
-        IfOk result (λ now. IsEvaluated (world grammar edition) edition depth context.now.memory.now
-        (layers grammar edition) (definition_trees prelude ++ definition_trees trees)
-        (kept_in grammar edition depth (numbers_in now.numbers.by_tree) prelude trees) now) }
+        IfOk result (λ now. IsEvaluated (world grammar edition dialect) edition depth
+        context.now.memory.now (layers grammar edition dialect)
+        (definition_trees prelude ++ definition_trees trees)
+        (kept_in grammar edition dialect depth (numbers_in now.numbers.by_tree) prelude trees)
+        now) }
     ensures stands { IfOk result (λ now. All Stands context.now.prelude.now) }
     ensures links { IfOk result (λ now. AreLinks now (map tree_at pieces.now)) }
     ensures tokens { result ≡ Err Refusal.Tokens → list_any bursts (members_after
-        (layers (G.answer context.now.grammar.now) edition) context.now.depth
+        (layers (G.answer context.now.grammar.now) edition context.now.dialect) context.now.depth
         (definitions_of context.now.prelude.now) (map piece_at pieces.now)) ≡ true }
     ensures numbers { result ≡ Err Refusal.Numbers → NeedsMore context.now.memory.now
         (definition_trees context.now.prelude.now ++ definition_trees (map piece_at pieces.now)) }

@@ -6,6 +6,7 @@ ghost use Rattle.bridge.specs.ReadText.{HasTooMany};
 ghost use Rattle.bridge.specs.TokenSteps.{text_steps};
 ghost use Rattle.expander_sources.specs.SourceReads.{IsSourceOf};
 ghost use Rattle.bridge.specs.PrintedRanges.{read_ranges};
+ghost use Rattle.expander_model.specs.Dialects.{top_level};
 ghost use Rattle.expander_model.specs.Expansion.{PlacedStep};
 ghost use Rattle.expander_model.specs.Held.{Stands};
 ghost use Rattle.expander_session.specs.Layered.{layers};
@@ -30,6 +31,7 @@ use crate::evaluate::{Evaluated, EvaluationContext, evaluate_pieces};
 use bridge::laws::tokens_are_where_they_are_printed;
 use bridge::parts::{LazyPrinted, SpanList};
 use bridge::{ReadFault, TokenRanges, token_ranges};
+use expander_model::dialect::Dialect;
 use expander_model::fault::{Fault, sort_faults};
 use expander_model::laws;
 use expander_reparse::parse::{Parsed, read_pieces};
@@ -180,15 +182,16 @@ pub enum Reply {
     Unread(ReadFault),
 }
 
-/// A text that may be edited and expanded, with a grammar of fragments, an edition, and a number
-/// of levels. It caches what the last text that was read gave, so an expansion does again only
-/// what an edit can affect.
+/// A text that may be edited and expanded, with a grammar of fragments, an edition, a dialect, and
+/// a number of levels. It caches what the last text that was read gave, so an expansion does again
+/// only what an edit can affect.
 #[derive(Drop)]
 pub struct Session<G: FragmentGrammar> {
     alloc: Global,
     text: LexedText,
     grammar: G,
     edition: Edition,
+    dialect: Dialect,
     depth: u8,
     // The definitions of other texts that the text is expanded after.
     prelude: Prelude,
@@ -210,6 +213,7 @@ impl<G: FragmentGrammar> Model for Session<G> {
       text = s.text;
       grammar = s.grammar;
       edition = s.edition;
+      dialect = s.dialect;
       depth = s.depth;
       prelude = s.prelude;
       held = held_in s.memory;
@@ -218,15 +222,15 @@ impl<G: FragmentGrammar> Model for Session<G> {
     } };
 
     ghost invariant = { λ s. (length s.text < 2 ^ 32)
-        × IsCache (world (G.answer s.grammar) s.edition) s.depth s.edition s.memory
+        × IsCache (world (G.answer s.grammar) s.edition s.dialect) s.depth s.edition s.memory
         × (s.memory.given < 2 ^ 32) };
 }
 
 impl<G: FragmentGrammar + Drop> Session<G> {
     /// A session over a text of at most `u32::MAX` bytes, all of whose tokens are of this edition.
     /// The grammar decides what fragments are, and `depth` how many levels of calls are expanded.
-    /// Nothing is expanded yet. Refused if there is no memory for a copy of the text and its
-    /// tokens.
+    /// No option of the dialect is set: a name finds pieces of texts alone. Nothing is expanded
+    /// yet. Refused if there is no memory for a copy of the text and its tokens.
     pub fn new(
         alloc: Global,
         text: &str,
@@ -239,6 +243,32 @@ impl<G: FragmentGrammar + Drop> Session<G> {
           text = text.now;
           grammar = grammar;
           edition = edition;
+          dialect = top_level;
+          depth = depth;
+          prelude = [];
+          held = None;
+          trees = [];
+          given = 0;
+        }) }
+    {
+        Session::with_dialect(alloc, text, grammar, edition, Dialect::top_level(), depth)
+    }
+
+    /// The same by a dialect, which says what a name finds.
+    pub fn with_dialect(
+        alloc: Global,
+        text: &str,
+        grammar: G,
+        edition: Edition,
+        dialect: Dialect,
+        depth: u8,
+    ) -> Result<Self, AllocError>
+        requires { length text.now < 2 ^ 32 }
+        ensures { IfOk result (λ s. s ≡ record {
+          text = text.now;
+          grammar = grammar;
+          edition = edition;
+          dialect = dialect;
           depth = depth;
           prelude = [];
           held = None;
@@ -252,6 +282,7 @@ impl<G: FragmentGrammar + Drop> Session<G> {
             text,
             grammar,
             edition,
+            dialect,
             depth,
             prelude: Prelude::new(alloc),
             memory: Cache::new(alloc),
@@ -356,6 +387,7 @@ impl<G: FragmentGrammar + Drop> Session<G> {
         let context = EvaluationContext {
             alloc,
             grammar: &self.grammar,
+            dialect: self.dialect,
             depth: self.depth,
             memory: &self.memory,
             prelude: &self.prelude,
@@ -376,18 +408,19 @@ fn expand_pieces<G: FragmentGrammar>(
     sources: Segments,
     bytes: usize,
 ) -> Result<(Expansion, Cache), Refusal>
-    requires right { IsCache (world (G.answer context.now.grammar.now) edition)
+    requires right { IsCache
+        (world (G.answer context.now.grammar.now) edition context.now.dialect)
         context.now.depth edition context.now.memory.now }
     requires own { All IsOwnPiece pieces.now }
     requires sources { AreSegments sources }
     requires theirs { AreTheirs sources pieces.now }
     requires met { AreMet context.now.memory.now.sources pieces.now }
     ensures taken { IfOk result (λ r. EvaluatesText (G.answer context.now.grammar.now) edition
-        context.now.depth context.now.memory.now context.now.prelude.now (map piece_at pieces.now)
-        r.0 r.1) }
+        context.now.dialect context.now.depth context.now.memory.now context.now.prelude.now
+        (map piece_at pieces.now) r.0 r.1) }
     ensures stands { IfOk result (λ r. All Stands context.now.prelude.now) }
     ensures tokens { result ≡ Err Refusal.Tokens → list_any bursts (members_after
-        (layers (G.answer context.now.grammar.now) edition) context.now.depth
+        (layers (G.answer context.now.grammar.now) edition context.now.dialect) context.now.depth
         (definitions_of context.now.prelude.now) (map piece_at pieces.now)) ≡ true }
     ensures numbers { result ≡ Err Refusal.Numbers → NeedsMore context.now.memory.now
         (definition_trees context.now.prelude.now ++ definition_trees (map piece_at pieces.now)) }

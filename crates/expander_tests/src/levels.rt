@@ -1,7 +1,7 @@
 //! Other numbers of levels than the stored run of scripts has, and the origins of printed tokens.
 use crate::opened::{found, opened};
 use crate::scripts::roomy;
-use expander::{Edition, Expansion, FaultKind, Options, Prelude, SmallGrammar, Watched};
+use expander::{Dialect, Edition, Expansion, FaultKind, Options, Prelude, SmallGrammar, Watched};
 use replay_script::answer_script;
 use std::alloc::Global;
 use std::test::Fail;
@@ -97,6 +97,7 @@ fn told(alloc: Global, depth: u8, text: &str) -> Result<String, Fail> {
     let options = Options {
         grammar: SmallGrammar,
         edition: Edition::Edition2024,
+        dialect: Dialect::top_level(),
         depth,
     };
     let mut writer = Watched::new(roomy(alloc));

@@ -26,6 +26,8 @@ mod refused;
 #[cfg(test)]
 mod runs;
 #[cfg(test)]
+mod scopes;
+#[cfg(test)]
 mod scripts;
 #[cfg(test)]
 mod sessions;

@@ -1,7 +1,7 @@
 //! Runs by other grammars, editions and numbers of levels than `run` has.
 use crate::fakes::{Pieces, whole, wide};
 use any_grammar::AnyGrammar;
-use expander::{Edition, Options, Status, Watched, run_with};
+use expander::{Dialect, Edition, Options, Status, Watched, run_with};
 use std::alloc::Global;
 use std::test::Fail;
 
@@ -75,6 +75,7 @@ fn options_of(is_rust: bool, edition: Edition, depth: u8) -> Options<AnyGrammar>
     Options {
         grammar,
         edition,
+        dialect: Dialect::top_level(),
         depth,
     }
 }

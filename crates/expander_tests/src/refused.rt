@@ -5,8 +5,8 @@ use crate::opened::{found, opened};
 use crate::scripts::OPTIONS;
 use any_grammar::AnyGrammar;
 use expander::{
-    Answer, Command, Edition, Expansion, Options, Prelude, Refusal, Reply, Session, SmallGrammar,
-    Status, TextRange, Watched, replay, run, run_with,
+    Answer, Command, Dialect, Edition, Expansion, Options, Prelude, Refusal, Reply, Session,
+    SmallGrammar, Status, TextRange, Watched, replay, run, run_with,
 };
 use replay_script::{Answered, End, answer_script};
 use std::alloc::{AllocError, Global};
@@ -200,6 +200,7 @@ fn rust_2021() -> Options<AnyGrammar> {
     Options {
         grammar: AnyGrammar::Rust(edition),
         edition,
+        dialect: Dialect::top_level(),
         depth: 128,
     }
 }

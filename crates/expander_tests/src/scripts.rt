@@ -1,6 +1,6 @@
 //! Scripts, line by line: what is written, how many lines are read, and how a script ends.
 use crate::fakes::{Narrow, whole, wide};
-use expander::{Edition, Options, Prelude, SmallGrammar, Watched};
+use expander::{Dialect, Edition, Options, Prelude, ScopeRules, SmallGrammar, Watched};
 use replay_script::{Answered, End, answer_script};
 use std::alloc::Global;
 use std::io::BufReader;
@@ -66,6 +66,10 @@ const ROWS: [(&str, &str, usize, &str); 28] = [
 pub(crate) const OPTIONS: Options<SmallGrammar> = Options {
     grammar: SmallGrammar,
     edition: Edition::Edition2024,
+    dialect: Dialect {
+        scope: ScopeRules::TopLevel,
+        items: false,
+    },
     depth: 128,
 };
 

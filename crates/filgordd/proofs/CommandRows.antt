@@ -7,11 +7,12 @@ use Rattle.clap.specs.Walk.{Text, all_of, first_of, one_of}
 use Rattle.clap.specs.declared.builder.value_parser.ValueParser.{ValueParser}
 use Rattle.filgordd.specs.Commands.{file_rule, layout_rule, on_text, option_rule, program_shape, with_more}
 
-module _ (grammar edition depth : ValueParser) where
+module _ (grammar edition scope depth : ValueParser) where
   abbrev named : Text → Shape
   named name = record (new_shape name) {
     rules = option_rule (codes "grammar") (codes "rust") grammar
         ∷ option_rule (codes "edition") (codes "2024") edition
+        ∷ option_rule (codes "scope") (codes "rust") scope
         ∷ option_rule (codes "depth") (codes "128") depth ∷ file_rule ∷ [];
   }
 
@@ -21,26 +22,26 @@ module _ (grammar edition depth : ValueParser) where
     subs = with_more layout_rule (on_text (named (codes "expand"))) ∷ on_text (named (codes "replay")) ∷ on_text (named (codes "view")) ∷ [];
   }
 
-  -- the subcommand, the three values and the file
+  -- the subcommand, the four values and the file
   abbrev got : List Text → Option (List (Option Text))
   got words = option_map (λ p. Some p.0 ∷ first_of (codes "grammar") p.1 ∷ first_of (codes "edition") p.1
-      ∷ first_of (codes "depth") p.1 ∷ first_of (codes "file") p.1 ∷ []) (subcommand_of program words)
+      ∷ first_of (codes "scope") p.1 ∷ first_of (codes "depth") p.1 ∷ first_of (codes "file") p.1 ∷ []) (subcommand_of program words)
 
   -- `filgordd replay --grammar small s`
   a_script : got (codes "filgordd" ∷ codes "replay" ∷ codes "--grammar" ∷ codes "small" ∷ codes "s" ∷ [])
-      ≡ Some (Some (codes "replay") ∷ Some (codes "small") ∷ Some (codes "2024") ∷ Some (codes "128") ∷ Some (codes "s") ∷ [])
+      ≡ Some (Some (codes "replay") ∷ Some (codes "small") ∷ Some (codes "2024") ∷ Some (codes "rust") ∷ Some (codes "128") ∷ Some (codes "s") ∷ [])
   unfolding clap_on_literals
   a_script = refl
 
-  -- `filgordd expand --edition=2015 --depth 0`
-  no_file : got (codes "filgordd" ∷ codes "expand" ∷ codes "--edition=2015" ∷ codes "--depth" ∷ codes "0" ∷ [])
-      ≡ Some (Some (codes "expand") ∷ Some (codes "rust") ∷ Some (codes "2015") ∷ Some (codes "0") ∷ None ∷ [])
+  -- `filgordd expand --edition=2015 --scope top --depth 0`
+  no_file : got (codes "filgordd" ∷ codes "expand" ∷ codes "--edition=2015" ∷ codes "--scope" ∷ codes "top" ∷ codes "--depth" ∷ codes "0" ∷ [])
+      ≡ Some (Some (codes "expand") ∷ Some (codes "rust") ∷ Some (codes "2015") ∷ Some (codes "top") ∷ Some (codes "0") ∷ None ∷ [])
   unfolding clap_on_literals
   no_file = refl
 
   -- `filgordd view -- --depth`
   after_dashes : got (codes "filgordd" ∷ codes "view" ∷ codes "--" ∷ codes "--depth" ∷ [])
-      ≡ Some (Some (codes "view") ∷ Some (codes "rust") ∷ Some (codes "2024") ∷ Some (codes "128") ∷ Some (codes "--depth") ∷ [])
+      ≡ Some (Some (codes "view") ∷ Some (codes "rust") ∷ Some (codes "2024") ∷ Some (codes "rust") ∷ Some (codes "128") ∷ Some (codes "--depth") ∷ [])
   unfolding clap_on_literals
   after_dashes = refl
 

@@ -4,6 +4,9 @@ use Rattle.std.specs.Str.Parse.{IsNumeral, digits_value, without_leading_plus}
 use Rattle.tt_data.specs.declared.edition.Edition.{Edition}
 use Rattle.any_grammar.specs.declared.chosen.AnyGrammar.{AnyGrammar}
 use Rattle.any_grammar.specs.declared.chosen.AnyGrammar.TheVariants.{Small, Rust}
+use Rattle.expander_model.specs.Dialects.{dialect_by}
+use Rattle.expander_model.specs.declared.scope_rules.ScopeRules.{ScopeRules}
+use Rattle.expander_model.specs.declared.scope_rules.ScopeRules.TheVariants as rules
 use Rattle.expander_run.specs.declared.options.Options.{Options}
 use Rattle.replay_script.specs.Editions.{edition_name}
 use Rattle.filgordd.specs.declared.job.Action.{Action}
@@ -20,13 +23,21 @@ abbrev pub IsGrammar : List ℕ → Edition → AnyGrammar → Type 0
 IsGrammar word edition Small = word ≡ codes "small"
 IsGrammar word edition (Rust e) = (word ≡ codes "rust") × (e ≡ edition)
 
+-- a word names rules of scopes
+abbrev pub IsScope : List ℕ → ScopeRules → Type 0
+IsScope word rules.TopLevel = word ≡ codes "top"
+IsScope word rules.Rust = word ≡ codes "rust"
+
 -- a word is a decimal number; a plus may come before it
 pub record IsDepth (word : List ℕ) (n : ℕ) : Type 0 where
   pub numeral : IsNumeral 10 (without_leading_plus word)
   pub value : n ≡ digits_value 10 (without_leading_plus word)
 
--- the words for a grammar, an edition and a number of levels choose these options
-pub record Chosen (grammar edition depth : List ℕ) (options : Options AnyGrammar) : Type 0 where
+-- the words for a grammar, an edition, rules of scopes and a number of levels choose these options
+pub record Chosen (grammar edition scope depth : List ℕ) (options : Options AnyGrammar)
+    : Type 0 where
   pub by_grammar : IsGrammar grammar options.edition options.grammar
   pub by_edition : edition ≡ edition_name options.edition
+  pub by_scope : IsScope scope options.dialect.scope
+  pub dialect : options.dialect ≡ dialect_by options.dialect.scope
   pub by_depth : IsDepth depth options.depth

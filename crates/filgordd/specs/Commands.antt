@@ -43,14 +43,27 @@ layout_rule = record (new_rule (codes "layout")) {
 abbrev pub file_rule : Rule
 file_rule = record (new_rule (codes "file")) { value_names = 1 }
 
+-- a command with the options that choose the language, whatever tests their values
+pub record ChoosesLanguage (name : Text) (shape : Shape) : Type 0 where
+  pub grammar : ValueParser
+  pub edition : ValueParser
+  pub scope : ValueParser
+  pub shape_is : shape ≡ record (new_shape name) {
+    rules = option_rule (codes "grammar") (codes "rust") grammar
+        ∷ option_rule (codes "edition") (codes "2024") edition
+        ∷ option_rule (codes "scope") (codes "rust") scope ∷ [];
+  }
+
 -- a subcommand with this name, whatever tests the values of its options
 pub record IsSubcommand (name : Text) (shape : Shape) : Type 0 where
   pub grammar : ValueParser
   pub edition : ValueParser
+  pub scope : ValueParser
   pub depth : ValueParser
   pub shape_is : shape ≡ record (new_shape name) {
     rules = option_rule (codes "grammar") (codes "rust") grammar
         ∷ option_rule (codes "edition") (codes "2024") edition
+        ∷ option_rule (codes "scope") (codes "rust") scope
         ∷ option_rule (codes "depth") (codes "128") depth ∷ file_rule ∷ [];
   }
 
@@ -106,11 +119,13 @@ pub record IsFlag (word : Option Text) (set : Bool) : Type 0 where
 pub record ChosenBy (rows : List Row) (options : Options AnyGrammar) : Type 0 where
   pub grammar : Text
   pub edition : Text
+  pub scope : Text
   pub depth : Text
   pub has_grammar : first_of (codes "grammar") rows ≡ Some grammar
   pub has_edition : first_of (codes "edition") rows ≡ Some edition
+  pub has_scope : first_of (codes "scope") rows ≡ Some scope
   pub has_depth : first_of (codes "depth") rows ≡ Some depth
-  pub chosen : Chosen grammar edition depth options
+  pub chosen : Chosen grammar edition scope depth options
 
 -- what they ask for: a job with these options, laid out or not, and, each as its word names it, a
 -- folder of libraries, other files in order, and a text

@@ -3,7 +3,8 @@ ghost use Rattle.std.specs.Prelude.{◌≡◌, IfOk, codes, false};
 ghost use Rattle.clap.specs.Words.{app_of, rule_of, shape_of};
 ghost use Rattle.clap.specs.declared.builder.command.Command.TheViews.{out-Command as fields_of};
 ghost use Rattle.clap.specs.declared.builder.value_parser.ValueParser.{ValueParser};
-ghost use Rattle.filgordd.specs.Commands.{IsExpandSubcommand, IsProgram, IsSubcommand, IsTextSubcommand, file_rule, layout_rule, library_rule, option_rule, with_rule};
+ghost use Rattle.filgordd.specs.Commands.{ChoosesLanguage, IsExpandSubcommand, IsProgram, IsSubcommand, IsTextSubcommand};
+ghost use Rattle.filgordd.specs.Commands.{file_rule, layout_rule, library_rule, option_rule, with_rule};
 
 use clap::{Arg, ArgAction, Command, value_parser};
 use std::alloc::{AllocError, Global};
@@ -18,6 +19,8 @@ const STATUSES: &str =
 static GRAMMARS: [&str; 2] = ["rust", "small"];
 
 static EDITIONS: [&str; 4] = ["2015", "2018", "2021", "2024"];
+
+static SCOPES: [&str; 2] = ["rust", "top"];
 
 fn grammar<'a>(alloc: Global) -> Arg<'a>
     ensures rule { (p : ValueParser)
@@ -43,6 +46,19 @@ fn edition<'a>(alloc: Global) -> Arg<'a>
         .value_parser(EDITIONS.as_slice())
         .default_value("2024")
         .help("The edition of Rust")
+}
+
+fn scope<'a>(alloc: Global) -> Arg<'a>
+    ensures rule { (p : ValueParser)
+        × (rule_of result ≡ option_rule (codes "scope") (codes "rust") p) }
+    ensures own { result.global ≡ false }
+{
+    Arg::new(alloc, "scope")
+        .long("scope")
+        .value_name("NAME")
+        .value_parser(SCOPES.as_slice())
+        .default_value("rust")
+        .help("The scope of definitions: that of Rust, or only the top level of a text")
 }
 
 fn depth<'a>(alloc: Global) -> Arg<'a>
@@ -97,15 +113,28 @@ fn file<'a>(alloc: Global) -> Arg<'a>
         .help("The text; without it, or for -, standard input")
 }
 
-// A subcommand with the options that each has.
-fn subcommand<'a>(alloc: Global, name: &'a str, about: &'a str) -> Result<Command<'a>, AllocError>
-    ensures shape { IfOk result (λ c. IsSubcommand name.now (shape_of c)) }
+// A command with the options that choose the language: grammar, edition, scope.
+fn language_command<'a>(
+    alloc: Global,
+    name: &'a str,
+    about: &'a str,
+) -> Result<Command<'a>, AllocError>
+    ensures shape { IfOk result (λ c. ChoosesLanguage name.now (shape_of c)) }
     ensures own { IfOk result (λ c. (fields_of c).has_globals ≡ false) }
 {
     Command::new(alloc, name)
         .about(about)
         .arg(grammar(alloc))?
         .arg(edition(alloc))?
+        .arg(scope(alloc))
+}
+
+// A subcommand with the options that each has.
+fn subcommand<'a>(alloc: Global, name: &'a str, about: &'a str) -> Result<Command<'a>, AllocError>
+    ensures shape { IfOk result (λ c. IsSubcommand name.now (shape_of c)) }
+    ensures own { IfOk result (λ c. (fields_of c).has_globals ≡ false) }
+{
+    language_command(alloc, name, about)?
         .arg(depth(alloc))?
         .arg(file(alloc))
 }

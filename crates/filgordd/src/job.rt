@@ -1,9 +1,9 @@
 //! What the program is asked for: a subcommand, its options and its text.
 ghost use Rattle.std.specs.Prelude.{◌≡◌, ◌≢◌, IfSome, MatchOption};
-ghost use Rattle.filgordd.specs.Choices.{Chosen, IsGrammar, action_name};
+ghost use Rattle.filgordd.specs.Choices.{Chosen, IsGrammar, IsScope, action_name};
 
 use any_grammar::AnyGrammar;
-use expander::{Edition, Options};
+use expander::{Dialect, Edition, Options, ScopeRules};
 use replay_script::edition_of;
 
 /// What is done with a text.
@@ -30,8 +30,8 @@ pub(crate) fn action_of(name: &str) -> Option<Action>
     }
 }
 
-/// A text, what is done with it, by which grammar, edition and number of levels, and after which
-/// definitions of other texts.
+/// A text, what is done with it, by which grammar, edition, dialect and number of levels, and
+/// after which definitions of other texts.
 #[derive(Drop)]
 pub(crate) struct Job<'a> {
     pub(crate) action: Action,
@@ -57,14 +57,31 @@ fn grammar_of(name: &str, edition: Edition) -> Option<AnyGrammar>
     }
 }
 
-/// The options that these three words choose, if each of them is one.
-pub(crate) fn options_of(grammar: &str, edition: &str, depth: &str) -> Option<Options<AnyGrammar>>
-    ensures { IfSome result (Chosen grammar.now edition.now depth.now) }
+// The rules of scopes of a name, if they are one's.
+fn scope_of(name: &str) -> Option<ScopeRules>
+    ensures { IfSome result (IsScope name.now) }
+{
+    match name {
+        "rust" => Some(ScopeRules::Rust),
+        "top" => Some(ScopeRules::TopLevel),
+        _ => None,
+    }
+}
+
+/// The options that these four words choose, if each of them is one.
+pub(crate) fn options_of(
+    grammar: &str,
+    edition: &str,
+    scope: &str,
+    depth: &str,
+) -> Option<Options<AnyGrammar>>
+    ensures { IfSome result (Chosen grammar.now edition.now scope.now depth.now) }
 {
     let edition = edition_of(edition)?;
     Some(Options {
         grammar: grammar_of(grammar, edition)?,
         edition,
+        dialect: Dialect::by(scope_of(scope)?),
         depth: depth.parse::<u8>().ok()?,
     })
 }

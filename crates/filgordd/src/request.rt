@@ -40,8 +40,9 @@ fn options_in(matches: &ArgMatches<'_>) -> Option<Options<AnyGrammar>>
 {
     let grammar = matches.get_str("grammar")?;
     let edition = matches.get_str("edition")?;
+    let scope = matches.get_str("scope")?;
     let depth = matches.get_str("depth")?;
-    options_of(grammar, edition, depth)
+    options_of(grammar, edition, scope, depth)
 }
 
 // The words for other files, in order.

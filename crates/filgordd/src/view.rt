@@ -24,11 +24,12 @@ fn reply_of(
     ensures { IfOk result (IsReplyIn (layers_of answer options) options.depth
         (definitions_of prelude) text.now None) }
 {
-    let mut session = match Session::new(
+    let mut session = match Session::with_dialect(
         alloc,
         text,
         options.grammar,
         options.edition,
+        options.dialect,
         options.depth,
     ) {
         Ok(session) => session,

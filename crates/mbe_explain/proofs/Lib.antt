@@ -1,4 +1,5 @@
 pub mod ListLemmas
+pub mod DifferLemmas
 pub mod ReachLemmas
 pub mod KeptSortLemmas
 pub mod ClashOnceLemmas

@@ -1,5 +1,5 @@
 -- Elements of lists that are joined from others.
-use Rattle.std.proofs.Common.{◌≡◌, inl, inr, refl, sym, subst, Bool, true, false, List, [], ◌∷◌}
+use Rattle.std.proofs.Common.{◌≡◌, inl, inr, refl, sym, ap, subst, Bool, true, false, List, [], ◌∷◌, map}
 use Rattle.std.specs.List.{flat_map}
 use Rattle.mbe_matcher.specs.Paths.{IsAmong, when}
 use Rattle.mbe_matcher.specs.Settled.{sorts}
@@ -12,6 +12,18 @@ pub of-when : {A : Type 0} (b : Bool) (x y : A) → IsAmong x (when b y) → (b 
 of-when true x y (inl e) = (refl, e)
 of-when true x y (inr h) = absurd h
 of-when false x y h = absurd h
+
+-- each element of a list gives one
+pub in-map : {A B : Type 0} (f : A → B) (x : A) (xs : List A) → IsAmong x xs → IsAmong (f x) (map f xs)
+in-map f x [] h = absurd h
+in-map f x (y ∷ xs) (inl e) = inl (ap f e)
+in-map f x (y ∷ xs) (inr h) = inr (in-map f x xs h)
+
+-- and each that is given is of one
+pub of-map : {A B : Type 0} (f : A → B) (y : B) (xs : List A) → IsAmong y (map f xs) → (x : A) × IsAmong x xs × (f x ≡ y)
+of-map f y [] h = absurd h
+of-map f y (x ∷ xs) (inl e) = (x, inl refl, e)
+of-map f y (x ∷ xs) (inr h) = let o = of-map f y xs h in (o.0, inr o.1, o.2)
 
 -- an element of a list of lists is of one of them
 pub of-flat_map : {A B : Type 0} (f : A → List B) (y : B) (xs : List A) → IsAmong y (flat_map f xs) →

@@ -18,21 +18,12 @@ use Rattle.mbe_explain.specs.Searches.{IsNear, Searched, open_if, open_of}
 use Rattle.mbe_explain.specs.Stops.{Wanted, wanted}
 use Rattle.mbe_explain.specs.Surveys.{choice_of, planned}
 use Rattle.mbe_explain.specs.declared.step.Step.{Step}
+use Rattle.mbe_explain.proofs.ListLemmas.{in-map, of-map}
 use Rattle.mbe_explain.proofs.ReachLemmas.{one-more}
 
 each-push : {A : Type 0} (Q : A → Type 0) (xs : List A) (x : A) → Each Q xs → Q x → Each Q (xs ++ (x ∷ []))
 each-push Q [] x h q = (q, tt)
 each-push Q (y ∷ xs) x h q = (h.0, each-push Q xs x h.1 q)
-
-in-map : {A B : Type 0} (f : A → B) (x : A) (xs : List A) → IsAmong x xs → IsAmong (f x) (map f xs)
-in-map f x [] h = absurd h
-in-map f x (y ∷ xs) (inl e) = inl (ap f e)
-in-map f x (y ∷ xs) (inr h) = inr (in-map f x xs h)
-
-of-map : {A B : Type 0} (f : A → B) (y : B) (xs : List A) → IsAmong y (map f xs) → (x : A) × IsAmong x xs × (f x ≡ y)
-of-map f y [] h = absurd h
-of-map f y (x ∷ xs) (inl e) = (x, inl refl, e)
-of-map f y (x ∷ xs) (inr h) = let o = of-map f y xs h in (o.0, inr o.1, o.2)
 
 module _ (gr : Grammar) (entries : List r.State) where
   -- a state that is near is in the matcher, if those that have come are

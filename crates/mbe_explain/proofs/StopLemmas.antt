@@ -25,6 +25,7 @@ use Rattle.mbe_matcher.proofs.TheLoopLemmas.{Held, start-held}
 use Rattle.mbe_explain.specs.Surveys.{comes_if, comes_of, first_or, head_taken, takings_if, takings_of, waits_if, waits_of}
 use Rattle.mbe_explain.specs.declared.step.Step.{Step}
 use Rattle.mbe_explain.specs.Stops.{HasTwoReadings, IsFirstClash, IsUnreadAt, Reaches}
+use Rattle.mbe_explain.proofs.DifferLemmas.{AllDiffer, next-differ, paths-differ}
 use Rattle.mbe_explain.proofs.KeptSortLemmas.{all-are-kept, kept-of-all}
 use Rattle.mbe_explain.proofs.ListLemmas.{in-flat_map, of-flat_map, sorts-flat_map}
 use Rattle.mbe_explain.proofs.ReachLemmas.{IsReached, Passes, Sort, leads, left_of, none-left, settled-reached}
@@ -368,10 +369,14 @@ module _ (gr : Grammar) (pattern : Items) (argument : Forest) where
       let clear = no-clash p ss h n in
       let same : r.the_reading gr pattern argument ≡ only (r.readings gr pattern argument) =
       ap (λ x. if x then None else only (r.readings gr pattern argument)) clear in
-      go (r.readings gr pattern argument) refl (none ∙ ended-only p ss h n ∙ same) clear
+      go (r.readings gr pattern argument) refl
+      (paths-differ (r.next gr) r.has_used_up (next-differ gr) (r.most_moves pattern argument) (r.start pattern argument))
+      (none ∙ ended-only p ss h n ∙ same) clear
     where
-      go : (all : List (List r.Move)) → r.readings gr pattern argument ≡ all → None ≡ only all → has_clash (r.takings gr pattern argument) ≡ false →
+      go : (all : List (List r.Move)) → r.readings gr pattern argument ≡ all → AllDiffer (r.readings gr pattern argument) → None ≡ only all → has_clash (r.takings gr pattern argument) ≡ false →
           HasTwoReadings gr pattern argument
-      go [] i o c = absurd (at-least-one e (h.reached None one) i)
-      go (x ∷ []) i o c = absurd (cc o)
-      go (x ∷ y ∷ all) i o c = record { clear = c; first = x; second = y; others = all; two = i }
+      go [] i d o c = absurd (at-least-one e (h.reached None one) i)
+      go (x ∷ []) i d o c = absurd (cc o)
+      go (x ∷ y ∷ all) i d o c =
+          let k = subst AllDiffer i d in
+          record { clear = c; first = x; second = y; others = all; two = i; differ = λ same. k.0 (inl (sym same)) }

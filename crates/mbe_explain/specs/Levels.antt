@@ -5,6 +5,7 @@ use Rattle.mbe_rules.specs.Items.{Separator}
 use Rattle.mbe_matcher.specs.Readings.{Choice, Frame, State, at, in_group, in_round, parted}
 use Rattle.mbe_matcher.specs.Threads.{between_of, frames_of}
 use Rattle.mbe_matcher.specs.declared.thread.Thread.{Thread}
+use Rattle.mbe_explain.specs.declared.choices.Ahead.{Ahead}
 use Rattle.mbe_explain.specs.declared.level.Inside.{Inside}
 use Rattle.mbe_explain.specs.declared.level.Inside.TheVariants.{Group, Iteration, Separated}
 use Rattle.mbe_explain.specs.declared.level.Level.{Held-Level-around, Level, Level', None', Some'}
@@ -55,3 +56,7 @@ abbrev pub AreAhead : (first second only : List Mark) → List Choice → Type 0
 AreAhead first second only [] = Unit {0}
 AreAhead first second only (c ∷ []) = marks_in c.1 ≡ only
 AreAhead first second only (c ∷ d ∷ cs) = (marks_in c.1 ≡ first) × (marks_in d.1 ≡ second)
+
+-- these levels are what is open after these choices
+abbrev pub IsOpenAfter : Ahead → List Choice → Type 0
+IsOpenAfter a cs = AreAhead (marks_of a.first) (marks_of a.second) (marks_of a.only) cs

@@ -10,9 +10,12 @@ use Rattle.mbe_matcher.specs.Waiting.{Each}
 use Rattle.mbe_matcher.specs.declared.position.Consumed.{Consumed}
 use Rattle.mbe_matcher.specs.declared.same_state.Seen.{Seen}
 use Rattle.mbe_explain.specs.Stops.{Wanted, wanted}
+use Rattle.mbe_explain.specs.Wants.{wants_of}
 use Rattle.mbe_explain.specs.declared.step.Step.{Step}
+use Rattle.mbe_explain.specs.declared.survey.Survey.{Survey}
 use Rattle.mbe_explain.specs.declared.survey.Task.{Task}
 use Rattle.mbe_explain.specs.declared.survey.Task.TheVariants.{GoOn, Note}
+use Rattle.mbe_explain.specs.declared.wanted.Wanted as code
 
 -- a state to be entered, if the move that leads to it consumes nothing
 abbrev pub open_if : Option Consumed → State → List State
@@ -41,13 +44,19 @@ module _ (gr : Grammar) (entries : List State) where
     pub nothing : Each (λ m. takes m ≡ false) moves
     pub path : IsPath (next gr) state moves x
 
-  -- some states were entered and others are due, all of them near, and these are the wants of those that were entered
+  -- some states were entered and others are due, all of them near, and these are the wants of
+  -- those that were entered
   pub record Searched (seen due : List State) (ws : List (Option Wanted)) : Type 0 where
     pub near : (x : State) → IsAmong x seen ⊎ IsAmong x due → IsNear x
     pub come : (x : State) → IsAmong x entries → IsAmong x seen ⊎ IsAmong x due
-    pub closed : (x : State) → IsAmong x seen → (c : Choice) → IsAmong c (next gr x) → takes c.0 ≡ false → IsAmong c.1 seen ⊎ IsAmong c.1 due
+    pub closed : (x : State) → IsAmong x seen → (c : Choice) → IsAmong c (next gr x) →
+        takes c.0 ≡ false → IsAmong c.1 seen ⊎ IsAmong c.1 due
     pub told : (x : State) → IsAmong x seen → (w : Wanted) → wanted x ≡ Some w → IsAmong (Some w) ws
     pub wants : (w : Wanted) → IsAmong (Some w) ws → (x : State) × IsNear x × (wanted x ≡ Some w)
+
+  -- a survey at a position has entered its states and told these wants, and these states are due
+  abbrev pub SearchedAt : u.Place → Survey → List code.Wanted → List State → Type 0
+  SearchedAt p x ws due = Searched (entered_of p x.seen) due (wants_of ws)
 
   -- one of these leads to a state that wants this, by moves that consume nothing
   abbrev pub IsNearWant : Wanted → Type 0

@@ -1,43 +1,50 @@
 -- Stops: how far the partial readings by a matcher come in an argument. (Of this project.)
-use Rattle.std.specs.Prelude.{◌≡◌, ℕ, ◌≤◌, ◌<◌, true, false, List, [], ◌∷◌, Option, Some, None}
+use Rattle.std.specs.Prelude.{◌≡◌, ◌≢◌, ℕ, ◌≤◌, ◌<◌, true, false, List, [], ◌∷◌, Option, Some, None}
 use Rattle.tt_data.specs.declared.delimiter.Delimiter.{Delimiter}
 use Rattle.tt_data.specs.Forest.{Forest}
 use Rattle.mbe_rules.specs.Items.{Item, Items, Separator, done, group_of, item, repetition}
 use Rattle.mbe_matcher.specs.Grammar.{Grammar}
 use Rattle.mbe_matcher.specs.Paths.{IsPath, clash, has_clash, takings_at}
-use Rattle.mbe_matcher.specs.Readings.{Frame, Move, State, at, in_group, in_round, next, parted, place_of, readings, start, takings}
+use Rattle.mbe_matcher.specs.Readings.{Frame, Move, State, at, in_group, in_round, parted}
+use Rattle.mbe_matcher.specs.Readings.{next, place_of, readings, start, takings}
 use Rattle.mbe_matcher.specs.Units.{Place, left}
 
--- a state that a partial reading comes to
-abbrev pub Reaches : Grammar → Items → Forest → State → Type 0
-Reaches grammar pattern argument s = (ms : List Move) × IsPath (next grammar) (start pattern argument) ms s
+module _ (gr : Grammar) (pattern : Items) (argument : Forest) where
+  -- a state that a partial reading comes to
+  abbrev pub Reaches : State → Type 0
+  Reaches s = (ms : List Move) × IsPath (next gr) (start pattern argument) ms s
 
--- a position that a partial reading comes to, and none comes further
-pub record IsFurthest (grammar : Grammar) (pattern : Items) (argument : Forest) (p : Place) : Type 0 where
-  pub reached : (s : State) × Reaches grammar pattern argument s × (place_of s ≡ p)
-  pub last : (s : State) → Reaches grammar pattern argument s → left p ≤ left (place_of s)
+  -- a position that a partial reading comes to, and none comes further
+  pub record IsFurthest (p : Place) : Type 0 where
+    pub reached : (s : State) × Reaches s × (place_of s ≡ p)
+    pub last : (s : State) → Reaches s → left p ≤ left (place_of s)
 
--- nowhere is a fragment consumed and something else too, no reading uses up the argument, and none comes further
-pub record IsUnreadAt (grammar : Grammar) (pattern : Items) (argument : Forest) (p : Place) : Type 0 where
-  pub clear : has_clash (takings grammar pattern argument) ≡ false
-  pub none : readings grammar pattern argument ≡ []
-  pub furthest : IsFurthest grammar pattern argument p
+  -- nowhere is a fragment consumed and something else too, no reading uses up the argument, and
+  -- none comes further
+  pub record IsUnreadAt (p : Place) : Type 0 where
+    pub clear : has_clash (takings gr pattern argument) ≡ false
+    pub none : readings gr pattern argument ≡ []
+    pub furthest : IsFurthest p
 
--- the first position at which a fragment is consumed by one partial reading, and something else too
-pub record IsFirstClash (grammar : Grammar) (pattern : Items) (argument : Forest) (p : Place) : Type 0 where
-  pub reached : (s : State) × Reaches grammar pattern argument s × (place_of s ≡ p)
-  pub clashes : clash (takings_at (left p) (takings grammar pattern argument)) ≡ true
-  pub first : (q : ℕ) → left p < q → clash (takings_at q (takings grammar pattern argument)) ≡ false
+  -- the first position at which a fragment is consumed by one partial reading, and something else
+  -- too
+  pub record IsFirstClash (p : Place) : Type 0 where
+    pub reached : (s : State) × Reaches s × (place_of s ≡ p)
+    pub clashes : clash (takings_at (left p) (takings gr pattern argument)) ≡ true
+    pub first : (q : ℕ) → left p < q → clash (takings_at q (takings gr pattern argument)) ≡ false
 
--- more than one list of moves uses up the argument, and nowhere is a fragment consumed and something else too
-pub record HasTwoReadings (grammar : Grammar) (pattern : Items) (argument : Forest) : Type 0 where
-  pub clear : has_clash (takings grammar pattern argument) ≡ false
-  pub first : List Move
-  pub second : List Move
-  pub others : List (List Move)
-  pub two : readings grammar pattern argument ≡ first ∷ second ∷ others
+  -- two different lists of moves use up the argument, and nowhere is a fragment consumed and
+  -- something else too
+  pub record HasTwoReadings : Type 0 where
+    pub clear : has_clash (takings gr pattern argument) ≡ false
+    pub first : List Move
+    pub second : List Move
+    pub others : List (List Move)
+    pub two : readings gr pattern argument ≡ first ∷ second ∷ others
+    pub differ : first ≢ second
 
--- what a matcher has to read next: an op, a separator, the closing of a group, the end of the argument
+-- what a matcher has to read next: an op, a separator, the closing of a group, the end of the
+-- argument
 pub data Wanted : Type 0 where
   wants_item : Item → Wanted
   wants_group : Delimiter → Wanted
@@ -67,5 +74,5 @@ wanted (at items fs p) = wanted_first items
 
 -- a partial reading comes to this position and wants this there
 abbrev pub IsWantedAt : Grammar → Items → Forest → Place → Wanted → Type 0
-IsWantedAt grammar pattern argument p w =
-    (s : State) × Reaches grammar pattern argument s × (place_of s ≡ p) × (wanted s ≡ Some w)
+IsWantedAt gr pattern argument p w =
+    (s : State) × Reaches gr pattern argument s × (place_of s ≡ p) × (wanted s ≡ Some w)

@@ -2,7 +2,8 @@
 use Rattle.std.specs.Prelude.{ℕ, List, [], ◌++◌, codes, flat_map, Option, Some, None}
 use Rattle.tt_data.specs.Displayed.{ident_text, literal_text, punct_text}
 use Rattle.tt_data.specs.declared.delimiter.DelimiterKind.{DelimiterKind}
-use Rattle.tt_data.specs.declared.delimiter.DelimiterKind.TheVariants.{Brace, Bracket, Invisible, Parenthesis}
+use Rattle.tt_data.specs.declared.delimiter.DelimiterKind.TheVariants.{Brace, Bracket}
+use Rattle.tt_data.specs.declared.delimiter.DelimiterKind.TheVariants.{Invisible, Parenthesis}
 use Rattle.tt_data.specs.declared.leaf.Punct.{Punct}
 use Rattle.mbe_rules.specs.declared.parser.MetaVarKind.{MetaVarKind}
 use Rattle.mbe_rules.specs.declared.parser.MetaVarKind.TheVariants as kind
@@ -10,7 +11,8 @@ use Rattle.mbe_rules.specs.declared.parser.Op as op
 use Rattle.mbe_rules.specs.declared.parser.Separator.{Separator}
 use Rattle.mbe_rules.specs.declared.parser.Separator.TheVariants as separator
 use Rattle.mbe_explain.specs.declared.wanted.Wanted.{Wanted}
-use Rattle.mbe_explain.specs.declared.wanted.Wanted.TheVariants.{Close, End, Op, Separator as Between}
+use Rattle.mbe_explain.specs.declared.wanted.Wanted.TheVariants.{Close, End, Op}
+use Rattle.mbe_explain.specs.declared.wanted.Wanted.TheVariants.{Separator as Between}
 
 -- the fragment specifier of a kind
 abbrev pub specifier : MetaVarKind → List ℕ

@@ -8,7 +8,7 @@ ghost use Rattle.mbe_matcher.specs.Readings as r;
 ghost use Rattle.mbe_matcher.specs.Threads.{between_of, extended, given, moves_of, state_of};
 ghost use Rattle.mbe_matcher.specs.Units as u;
 ghost use Rattle.mbe_matcher.specs.declared.position.Consumed.TheVariants as consumed;
-ghost use Rattle.mbe_explain.specs.Levels.{AreAhead, frame_mark, mark_of, marks_of};
+ghost use Rattle.mbe_explain.specs.Levels.{IsOpenAfter, frame_mark, mark_of, marks_of};
 ghost use Rattle.mbe_explain.specs.Stops.{wanted, wanted_last};
 ghost use Rattle.mbe_explain.specs.Surveys.{choice_of};
 ghost use Rattle.mbe_explain.specs.Wants.{want_in};
@@ -34,7 +34,8 @@ struct Ahead<'a> {
 
 // The same is open after any move.
 fn after_any<'a>(levels: Option<&'a Level<'a>>) -> Ahead<'a>
-    ensures { (result.first ≡ levels.entry) × (result.second ≡ levels.entry) × (result.only ≡ levels.entry) }
+    ensures { (result.first ≡ levels.entry) × (result.second ≡ levels.entry)
+        × (result.only ≡ levels.entry) }
 {
     Ahead {
         first: levels,
@@ -55,7 +56,8 @@ fn borrowed<'a>(separator: &'a Option<Separator>) -> Option<&'a Separator>
 
 // What is wanted at the end of a list of ops.
 fn wanted_last<'a>(levels: Option<&'a Level<'a>>) -> Option<Wanted<'a>>
-    ensures { (fs : List r.Frame) → map frame_mark fs ≡ marks_of levels.entry → want_in result ≡ wanted_last fs }
+    ensures { (fs : List r.Frame) → map frame_mark fs ≡ marks_of levels.entry →
+        want_in result ≡ wanted_last fs }
 {
     let Some(level) = levels else {
         return Some(Wanted::End);
@@ -69,7 +71,8 @@ fn wanted_last<'a>(levels: Option<&'a Level<'a>>) -> Option<Wanted<'a>>
 
 // What an op wants, if it is no repetition.
 fn wanted_first<'a>(op: &'a Op) -> Option<Wanted<'a>>
-    ensures { (rest : Items) (fs : List r.Frame) (p : u.Place) → want_in result ≡ wanted (r.at (put_op op.now rest) fs p) }
+    ensures { (rest : Items) (fs : List r.Frame) (p : u.Place) →
+        want_in result ≡ wanted (r.at (put_op op.now rest) fs p) }
 {
     match op {
         Op::Repeat { .. } => None,
@@ -80,7 +83,8 @@ fn wanted_first<'a>(op: &'a Op) -> Option<Wanted<'a>>
 impl<'a> Step<'a> {
     /// Before the matcher and the argument.
     pub(crate) fn start(pattern: &'a [Op]) -> Step<'a>
-        ensures state { (p : u.Place) → state_of result.thread p ≡ r.at (items_of pattern.now) [] p }
+        ensures state { (p : u.Place) →
+            state_of result.thread p ≡ r.at (items_of pattern.now) [] p }
         ensures moves { moves_of result.thread.moves ≡ [] }
         ensures taken { result.taken ≡ Some consumed.Unit }
     {
@@ -115,8 +119,9 @@ impl<'a> Step<'a> {
 
     // What is open after a move over this op, or into it.
     fn ahead_at(&self, arena: &'a Bump, op: &'a Op) -> Result<Ahead<'a>, AllocError>
-        ensures { (gr : Grammar) (rest : Items) (fs : List r.Frame) (p : u.Place) → map frame_mark fs ≡ marks_of self.now.levels →
-            IfOk result (λ a. AreAhead (marks_of a.first) (marks_of a.second) (marks_of a.only) (r.next gr (r.at (put_op op.now rest) fs p))) }
+        ensures { (gr : Grammar) (rest : Items) (fs : List r.Frame) (p : u.Place) →
+            map frame_mark fs ≡ marks_of self.now.levels →
+            IfOk result (λ a. IsOpenAfter a (r.next gr (r.at (put_op op.now rest) fs p))) }
     {
         match op {
             Op::Repeat { separator, .. } => {
@@ -141,8 +146,9 @@ impl<'a> Step<'a> {
         around: Option<&'a Level<'a>>,
     ) -> Result<Ahead<'a>, AllocError>
         requires { marks_of self.now.levels ≡ mark_of inside ∷ marks_of around }
-        ensures { (gr : Grammar) (fs : List r.Frame) (p : u.Place) → map frame_mark fs ≡ marks_of self.now.levels →
-            IfOk result (λ a. AreAhead (marks_of a.first) (marks_of a.second) (marks_of a.only) (r.next gr (r.at done fs p))) }
+        ensures { (gr : Grammar) (fs : List r.Frame) (p : u.Place) →
+            map frame_mark fs ≡ marks_of self.now.levels →
+            IfOk result (λ a. IsOpenAfter a (r.next gr (r.at done fs p))) }
     {
         match inside {
             Inside::Group => Ok(after_any(around)),
@@ -169,8 +175,9 @@ impl<'a> Step<'a> {
 
     // What is open after a move at the end of the ops.
     fn ahead_at_end(&self, arena: &'a Bump) -> Result<Ahead<'a>, AllocError>
-        ensures { (gr : Grammar) (fs : List r.Frame) (p : u.Place) → map frame_mark fs ≡ marks_of self.now.levels →
-            IfOk result (λ a. AreAhead (marks_of a.first) (marks_of a.second) (marks_of a.only) (r.next gr (r.at done fs p))) }
+        ensures { (gr : Grammar) (fs : List r.Frame) (p : u.Place) →
+            map frame_mark fs ≡ marks_of self.now.levels →
+            IfOk result (λ a. IsOpenAfter a (r.next gr (r.at done fs p))) }
     {
         match self.levels {
             Some(level) => self.ahead_after(arena, level.inside, level.around),
@@ -180,8 +187,8 @@ impl<'a> Step<'a> {
 
     // What is open after the next moves.
     fn ahead(&self, arena: &'a Bump) -> Result<Ahead<'a>, AllocError>
-        ensures { (gr : Grammar) (p : u.Place) → IfOk result (λ a.
-            AreAhead (marks_of a.first) (marks_of a.second) (marks_of a.only) (r.next gr (state_of self.now.thread p))) }
+        ensures { (gr : Grammar) (p : u.Place) →
+            IfOk result (λ a. IsOpenAfter a (r.next gr (state_of self.now.thread p))) }
     {
         match self.thread.next_item() {
             Some(op) => self.ahead_at(arena, op),
@@ -196,9 +203,10 @@ impl<'a> Step<'a> {
         grammar: &G,
         place: &Place<'a>,
     ) -> Result<Steps<'a>, AllocError>
-        ensures { let p = place_of place.now in
-            IfOk result (λ ss. given p (option_map choice_of ss.0) ++ given p (option_map choice_of ss.1)
-            ≡ map (extended (moves_of self.now.thread.moves)) (r.next (G.answer grammar.now) (state_of self.now.thread p))) }
+        ensures { let p = place_of place.now in let t = self.now.thread in
+            IfOk result (λ ss.
+            given p (option_map choice_of ss.0) ++ given p (option_map choice_of ss.1)
+            ≡ map (extended (moves_of t.moves)) (r.next (G.answer grammar.now) (state_of t p))) }
     {
         let choices = self.thread.choices(arena, grammar, place)?;
         let ahead = self.ahead(arena)?;

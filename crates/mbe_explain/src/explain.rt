@@ -84,9 +84,12 @@ fn find<'a, G: FragmentGrammar>(
         IsFirstClash gr (items_of pattern.now) (forest argument.entry) (place_of f.place)) }
     ensures two { let gr = G.answer grammar.now in IfOk result (λ f. f.kind ≡ kind.TwoReadings →
         HasTwoReadings gr (items_of pattern.now) (forest argument.entry)) }
-    ensures sound { IfOk result (λ f. Each (IsSoundAt (items_of pattern.now)) (comes_of (place_of f.place) f.entries.items)) }
-    ensures near { let gr = G.answer grammar.now in IfOk result (λ f. let p = place_of f.place in (w : spec.Wanted) →
-        IsNearWant gr (come_to p f.entries.items) w ↔ IsWantedAt gr (items_of pattern.now) (forest argument.entry) p w) }
+    ensures sound { IfOk result (λ f.
+        Each (IsSoundAt (items_of pattern.now)) (comes_of (place_of f.place) f.entries.items)) }
+    ensures near { let gr = G.answer grammar.now in
+        IfOk result (λ f. let p = place_of f.place in (w : spec.Wanted) →
+        IsNearWant gr (come_to p f.entries.items) w
+        ↔ IsWantedAt gr (items_of pattern.now) (forest argument.entry) p w) }
 {
     let mut place = Place::start(alloc, argument);
     let mut found = Survey::new(alloc);
@@ -142,7 +145,8 @@ pub fn explain_pattern<'a, G: FragmentGrammar>(
 
     // Whatever the kind: exactly what is wanted there.
     ensures wanted { let gr = G.answer grammar.now in IfOk result (λ s. (w : spec.Wanted) →
-        IsAmong (Some w) (wants_of s.wanted.items) ↔ IsWantedAt gr (items_of pattern.now) (forest argument.entry) (place_of s.place) w) }
+        IsAmong (Some w) (wants_of s.wanted.items)
+        ↔ IsWantedAt gr (items_of pattern.now) (forest argument.entry) (place_of s.place) w) }
 {
     let Found {
         kind,

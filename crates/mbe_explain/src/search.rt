@@ -1,5 +1,6 @@
 //! A search of all states that are entered at a position, each once, for what they want.
-ghost use Rattle.std.specs.Prelude.{◌≡◌, ◌↔◌, ◌<◌, ◌+◌, List, [], ◌∷◌, ◌++◌, IfOk, OnOk, None, Some};
+ghost use Rattle.std.specs.Prelude.{◌≡◌, ◌↔◌, ◌<◌, ◌+◌, List, [], ◌∷◌, ◌++◌, IfOk, OnOk};
+ghost use Rattle.std.specs.Prelude.{None, Some};
 ghost use Rattle.mbe_rules.specs.Items.{Items};
 ghost use Rattle.mbe_matcher.specs.Paths.{IsAmong};
 ghost use Rattle.mbe_matcher.specs.Places.{place_of};
@@ -9,7 +10,7 @@ ghost use Rattle.mbe_matcher.specs.Settled.{IsGood, IsSoundAt, most_tasks};
 ghost use Rattle.mbe_matcher.specs.Threads.{state_of};
 ghost use Rattle.mbe_matcher.specs.Units as u;
 ghost use Rattle.mbe_matcher.specs.Waiting.{Each, empties_at};
-ghost use Rattle.mbe_explain.specs.Searches.{IsNearWant, Searched, come_by, come_to, entered_of, open_of};
+ghost use Rattle.mbe_explain.specs.Searches.{IsNearWant, SearchedAt, come_by, come_to, open_of};
 ghost use Rattle.mbe_explain.specs.Stops as s;
 ghost use Rattle.mbe_explain.specs.Surveys.{HasEnd, comes_by, comes_of, tasks_of, tasks_of_all};
 ghost use Rattle.mbe_explain.specs.Wants.{told_by, wants_of};
@@ -23,7 +24,8 @@ use std::alloc::{AllocError, Global};
 
 // Adds what is wanted, if anything.
 fn tell<'a>(wanted: &mut Vec<Wanted<'a>>, want: Option<Wanted<'a>>) -> Result<(), AllocError>
-    ensures { OnOk result (wants_of wanted.new.items ≡ wants_of wanted.old.items ++ told_by want.entry) }
+    ensures { OnOk result
+        (wants_of wanted.new.items ≡ wants_of wanted.old.items ++ told_by want.entry) }
 {
     match want {
         None => Ok(()),
@@ -46,14 +48,17 @@ impl<'a> Survey<'a> {
     ) -> Result<(), AllocError>
         requires good { IsGood (state_of step.thread (place_of place.now)) }
         requires tasks { Each (HasEnd (place_of place.now)) self.now.tasks.items }
-        ensures searched { let p = place_of place.now in let gr = G.answer grammar.now in (pattern : Items) (entries : List r.State) →
+        ensures searched { let p = place_of place.now in let gr = G.answer grammar.now in
+            (pattern : Items) (entries : List r.State) →
             ((x : r.State) → IsAmong x entries → IsIn pattern x) →
-            Searched gr entries (entered_of p self.old.seen) (open_of p self.old.tasks.items ++ (state_of step.entry.thread p ∷ [])) (wants_of wanted.old.items) →
-            OnOk result (Searched gr entries (entered_of p self.new.seen) (open_of p self.new.tasks.items) (wants_of wanted.new.items)) }
+            SearchedAt gr entries p self.old wanted.old.items
+            (open_of p self.old.tasks.items ++ (state_of step.entry.thread p ∷ [])) →
+            OnOk result (SearchedAt gr entries p self.new wanted.new.items
+            (open_of p self.new.tasks.items)) }
         ensures tasks { OnOk result (Each (HasEnd (place_of place.now)) self.new.tasks.items) }
-        ensures fewer { let p = place_of place.now in
+        ensures fewer { let p = place_of place.now in let state = state_of step.entry.thread p in
             OnOk result (tasks_of_all p self.new.tasks.items
-            < tasks_of_all p self.old.tasks.items + most_tasks (empties_at (state_of step.entry.thread p))) }
+            < tasks_of_all p self.old.tasks.items + most_tasks (empties_at state)) }
     {
         let thread = step.thread;
         if self.seen.was_settled(&thread) {
@@ -79,10 +84,13 @@ impl<'a> Survey<'a> {
     ) -> Result<(), AllocError>
         requires task { HasEnd (place_of place.now) task }
         requires tasks { Each (HasEnd (place_of place.now)) self.now.tasks.items }
-        ensures searched { let p = place_of place.now in let gr = G.answer grammar.now in (pattern : Items) (entries : List r.State) →
+        ensures searched { let p = place_of place.now in let gr = G.answer grammar.now in
+            (pattern : Items) (entries : List r.State) →
             ((x : r.State) → IsAmong x entries → IsIn pattern x) →
-            Searched gr entries (entered_of p self.old.seen) (open_of p (self.old.tasks.items ++ (task.entry ∷ []))) (wants_of wanted.old.items) →
-            OnOk result (Searched gr entries (entered_of p self.new.seen) (open_of p self.new.tasks.items) (wants_of wanted.new.items)) }
+            SearchedAt gr entries p self.old wanted.old.items
+            (open_of p (self.old.tasks.items ++ (task.entry ∷ []))) →
+            OnOk result (SearchedAt gr entries p self.new wanted.new.items
+            (open_of p self.new.tasks.items)) }
         ensures tasks { OnOk result (Each (HasEnd (place_of place.now)) self.new.tasks.items) }
         ensures fewer { let p = place_of place.now in
             OnOk result (tasks_of_all p self.new.tasks.items
@@ -103,8 +111,11 @@ impl<'a> Survey<'a> {
     // Plans a step that has come to a position, unless it has ended.
     fn plan_entry(&mut self, step: &Step<'a>) -> Result<(), AllocError>
         ensures seen { OnOk result (self.new.seen ≡ self.old.seen) }
-        ensures due { (p : u.Place) → OnOk result (open_of p self.new.tasks.items ≡ open_of p self.old.tasks.items ++ come_by p step.now) }
-        ensures tasks { (pattern : Items) (p : u.Place) → IsSoundAt pattern (comes_by p step.now) → Each (HasEnd p) self.old.tasks.items →
+        ensures due { (p : u.Place) → OnOk result
+            (open_of p self.new.tasks.items
+            ≡ open_of p self.old.tasks.items ++ come_by p step.now) }
+        ensures tasks { (pattern : Items) (p : u.Place) →
+            IsSoundAt pattern (comes_by p step.now) → Each (HasEnd p) self.old.tasks.items →
             OnOk result (Each (HasEnd p) self.new.tasks.items) }
     {
         match step.taken {
@@ -120,8 +131,10 @@ impl<'a> Survey<'a> {
     fn plan_entries(&mut self, steps: &[Step<'a>]) -> Result<(), AllocError>
         requires { self.now.tasks.items ≡ [] }
         ensures seen { OnOk result (self.new.seen ≡ self.old.seen) }
-        ensures due { (p : u.Place) → OnOk result (open_of p self.new.tasks.items ≡ come_to p steps.now) }
-        ensures tasks { (pattern : Items) (p : u.Place) → Each (IsSoundAt pattern) (comes_of p steps.now) →
+        ensures due { (p : u.Place) →
+            OnOk result (open_of p self.new.tasks.items ≡ come_to p steps.now) }
+        ensures tasks { (pattern : Items) (p : u.Place) →
+            Each (IsSoundAt pattern) (comes_of p steps.now) →
             OnOk result (Each (HasEnd p) self.new.tasks.items) }
     {
         let mut left = steps.len();
@@ -141,9 +154,11 @@ pub(crate) fn wanted_at<'a, G: FragmentGrammar>(
     steps: &[Step<'a>],
     place: &Place<'a>,
 ) -> Result<Vec<Wanted<'a>>, AllocError>
-    requires { (pattern : Items) × Each (IsSoundAt pattern) (comes_of (place_of place.now) steps.now) }
+    requires { (pattern : Items)
+        × Each (IsSoundAt pattern) (comes_of (place_of place.now) steps.now) }
     ensures { let p = place_of place.now in let gr = G.answer grammar.now in
-        IfOk result (λ ws. (w : s.Wanted) → IsAmong (Some w) (wants_of ws.items) ↔ IsNearWant gr (come_to p steps.now) w) }
+        IfOk result (λ ws. (w : s.Wanted) →
+        IsAmong (Some w) (wants_of ws.items) ↔ IsNearWant gr (come_to p steps.now) w) }
 {
     let mut survey = Survey::new(alloc);
     let mut wanted = Vec::new(alloc);

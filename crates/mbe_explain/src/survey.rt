@@ -12,7 +12,9 @@ ghost use Rattle.mbe_matcher.specs.Readings as r;
 ghost use Rattle.mbe_matcher.specs.Settled.{IsGood, IsSoundAt, most_tasks};
 ghost use Rattle.mbe_matcher.specs.Threads.{Waits, is_trees, state_of};
 ghost use Rattle.mbe_matcher.specs.Waiting.{Each, advanced_by, empties_at, settled_at};
-ghost use Rattle.mbe_explain.specs.Surveys.{HasEnd, Surveys, comes_by, comes_of, head_taken, planned, takings_of, tasks_of, tasks_of_all};
+ghost use Rattle.mbe_explain.specs.Surveys.{HasEnd, LeadsOnOk, Surveys, comes_by, comes_of};
+ghost use Rattle.mbe_explain.specs.Surveys.{head_taken, planned, takings_of};
+ghost use Rattle.mbe_explain.specs.Surveys.{tasks_of, tasks_of_all};
 ghost use Rattle.mbe_explain.specs.declared.survey.Task.TheVariants.{GoOn};
 
 use crate::step::Step;
@@ -64,7 +66,8 @@ impl<'a> Survey<'a> {
     pub(crate) fn plan(&mut self, step: Option<Step<'a>>) -> Result<(), AllocError>
         ensures waiting { OnOk result (self.new.waiting.items ≡ self.old.waiting.items) }
         ensures seen { OnOk result (self.new.seen ≡ self.old.seen) }
-        ensures tasks { OnOk result (self.new.tasks.items ≡ self.old.tasks.items ++ planned step.entry) }
+        ensures tasks { OnOk result
+            (self.new.tasks.items ≡ self.old.tasks.items ++ planned step.entry) }
     {
         match step {
             None => Ok(()),
@@ -86,13 +89,12 @@ impl<'a> Survey<'a> {
         requires here { step.taken ≡ None }
         requires good { IsGood (state_of step.thread (place_of place.now)) }
         requires tasks { Each (HasEnd (place_of place.now)) self.now.tasks.items }
-        ensures all { let p = place_of place.now in let gr = G.answer grammar.now in (pattern : Items) (all : List Waits) →
-            Surveys gr pattern p all self.old (self.old.tasks.items ++ (GoOn step.entry ∷ [])) →
-            OnOk result (Surveys gr pattern p all self.new self.new.tasks.items) }
+        ensures all { LeadsOnOk (G.answer grammar.now) (place_of place.now)
+            self.old (self.old.tasks.items ++ (GoOn step.entry ∷ [])) result self.new }
         ensures tasks { OnOk result (Each (HasEnd (place_of place.now)) self.new.tasks.items) }
-        ensures fewer { let p = place_of place.now in
+        ensures fewer { let p = place_of place.now in let state = state_of step.entry.thread p in
             OnOk result (tasks_of_all p self.new.tasks.items + 2
-            ≤ tasks_of_all p self.old.tasks.items + most_tasks (empties_at (state_of step.entry.thread p))) }
+            ≤ tasks_of_all p self.old.tasks.items + most_tasks (empties_at state)) }
     {
         if has_ended(&step.thread, place) {
             self.waiting.push(step.ended())?;
@@ -116,13 +118,12 @@ impl<'a> Survey<'a> {
         requires here { step.taken ≡ None }
         requires good { IsGood (state_of step.thread (place_of place.now)) }
         requires tasks { Each (HasEnd (place_of place.now)) self.now.tasks.items }
-        ensures all { let p = place_of place.now in let gr = G.answer grammar.now in (pattern : Items) (all : List Waits) →
-            Surveys gr pattern p all self.old (self.old.tasks.items ++ (GoOn step.entry ∷ [])) →
-            OnOk result (Surveys gr pattern p all self.new self.new.tasks.items) }
+        ensures all { LeadsOnOk (G.answer grammar.now) (place_of place.now)
+            self.old (self.old.tasks.items ++ (GoOn step.entry ∷ [])) result self.new }
         ensures tasks { OnOk result (Each (HasEnd (place_of place.now)) self.new.tasks.items) }
-        ensures fewer { let p = place_of place.now in
+        ensures fewer { let p = place_of place.now in let state = state_of step.entry.thread p in
             OnOk result (tasks_of_all p self.new.tasks.items
-            < tasks_of_all p self.old.tasks.items + most_tasks (empties_at (state_of step.entry.thread p))) }
+            < tasks_of_all p self.old.tasks.items + most_tasks (empties_at state)) }
     {
         let thread = step.thread;
         let twice = self.seen.was_settled(&thread);
@@ -144,9 +145,8 @@ impl<'a> Survey<'a> {
     ) -> Result<(), AllocError>
         requires task { HasEnd (place_of place.now) task }
         requires tasks { Each (HasEnd (place_of place.now)) self.now.tasks.items }
-        ensures all { let p = place_of place.now in let gr = G.answer grammar.now in (pattern : Items) (all : List Waits) →
-            Surveys gr pattern p all self.old (self.old.tasks.items ++ (task.entry ∷ [])) →
-            OnOk result (Surveys gr pattern p all self.new self.new.tasks.items) }
+        ensures all { LeadsOnOk (G.answer grammar.now) (place_of place.now)
+            self.old (self.old.tasks.items ++ (task.entry ∷ [])) result self.new }
         ensures tasks { OnOk result (Each (HasEnd (place_of place.now)) self.new.tasks.items) }
         ensures fewer { let p = place_of place.now in
             OnOk result (tasks_of_all p self.new.tasks.items
@@ -182,9 +182,8 @@ impl<'a> Survey<'a> {
         requires here { step.taken ≡ None }
         requires good { IsGood (state_of step.thread (place_of place.now)) }
         ensures done { OnOk result (self.new.tasks.items ≡ []) }
-        ensures all { let p = place_of place.now in let gr = G.answer grammar.now in (pattern : Items) (all : List Waits) →
-            Surveys gr pattern p all self.old (GoOn step.entry ∷ []) →
-            OnOk result (Surveys gr pattern p all self.new self.new.tasks.items) }
+        ensures all { LeadsOnOk (G.answer grammar.now) (place_of place.now)
+            self.old (GoOn step.entry ∷ []) result self.new }
     {
         self.enter(arena, grammar, step, place)?;
         while let Some(task) = self.tasks.pop() {
@@ -202,11 +201,14 @@ impl<'a> Survey<'a> {
         place: &Place<'a>,
     ) -> Result<(), AllocError>
         requires tasks { self.now.tasks.items ≡ [] }
-        requires sound { (pattern : Items) × IsSoundAt pattern (comes_by (place_of place.now) step.now) }
+        requires sound { (pattern : Items)
+            × IsSoundAt pattern (comes_by (place_of place.now) step.now) }
         ensures done { OnOk result (self.new.tasks.items ≡ []) }
-        ensures all { let p = place_of place.now in let gr = G.answer grammar.now in (pattern : Items) (all : List Waits) →
+        ensures all { let p = place_of place.now in let gr = G.answer grammar.now in
+            (pattern : Items) (all : List Waits) →
             IsSoundAt pattern (comes_by p step.now) → Surveys gr pattern p all self.old [] →
-            OnOk result (Surveys gr pattern p (all ++ advanced_by (settled_at gr) (comes_by p step.now)) self.new []) }
+            OnOk result (Surveys gr pattern p
+            (all ++ advanced_by (settled_at gr) (comes_by p step.now)) self.new []) }
     {
         match step.taken {
             None => {
@@ -231,11 +233,13 @@ impl<'a> Survey<'a> {
         requires waiting { self.now.waiting.items ≡ [] }
         requires seen { self.now.seen ≡ [] }
         requires tasks { self.now.tasks.items ≡ [] }
-        requires sound { (pattern : Items) × Each (IsSoundAt pattern) (comes_of (place_of place.now) steps.now) }
+        requires sound { (pattern : Items)
+            × Each (IsSoundAt pattern) (comes_of (place_of place.now) steps.now) }
         ensures done { OnOk result (self.new.tasks.items ≡ []) }
-        ensures all { let p = place_of place.now in let gr = G.answer grammar.now in (pattern : Items) →
-            Each (IsSoundAt pattern) (comes_of p steps.now) →
-            OnOk result (Surveys gr pattern p (flat_map (advanced_by (settled_at gr)) (comes_of p steps.now)) self.new []) }
+        ensures all { let p = place_of place.now in let gr = G.answer grammar.now in
+            (pattern : Items) → Each (IsSoundAt pattern) (comes_of p steps.now) →
+            OnOk result (Surveys gr pattern p
+            (flat_map (advanced_by (settled_at gr)) (comes_of p steps.now)) self.new []) }
     {
         for step in steps {
             self.advance(arena, grammar, step, place)?;

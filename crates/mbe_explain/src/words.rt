@@ -1,7 +1,8 @@
 //! The words for what is wanted.
 ghost use Rattle.std.specs.Prelude.{◌≡◌};
 ghost use Rattle.std.specs.Fmt.{WritesOnOk};
-ghost use Rattle.mbe_explain.specs.Words.{colon_specifier, op_text, opening_text, puncts_text, separator_text, specifier};
+ghost use Rattle.mbe_explain.specs.Words.{colon_specifier, op_text, opening_text, puncts_text};
+ghost use Rattle.mbe_explain.specs.Words.{separator_text, specifier};
 
 use crate::wanted::Wanted;
 use mbe_rules::{MetaVarKind, Op, Separator};

@@ -5,6 +5,7 @@ use Rattle.bridge.specs.declared.reading.outcome.ReadFault.{ReadFault}
 use Rattle.tt_data.specs.Forest.{Forest}
 use Rattle.tt_data.specs.declared.edition.Edition.{Edition}
 use Rattle.expander_model.specs.Meaning.{Layers, ReadMeaning, meaning_in}
+use Rattle.expander_model.specs.declared.dialect.Dialect.{Dialect}
 use Rattle.expander_scope.specs.declared.refusal.Refusal.{Refusal}
 use Rattle.expander_scope.specs.declared.refusal.Refusal.TheVariants.{Memory, Tokens, Numbers}
 use Rattle.expander_session.specs.Answers.{CanEdit, text_after}
@@ -34,10 +35,11 @@ use Rattle.replay_script.specs.declared.sources.Sources.{Sources}
 
 -- ---- what a session remembers
 
--- grammar, edition and depth are these
-pub record IsSet {G : Type 0} (s : State G) (grammar : G) (edition : Edition) (depth : ℕ) : Type 0 where
+-- grammar, edition, dialect and depth are these
+pub record IsSet {G : Type 0} (s : State G) (grammar : G) (edition : Edition) (dialect : Dialect) (depth : ℕ) : Type 0 where
   pub grammar_is : s.grammar ≡ grammar
   pub edition_is : s.edition ≡ edition
+  pub dialect_is : s.dialect ≡ dialect
   pub depth_is : s.depth ≡ depth
 
 -- what a session remembers of where its script stands
@@ -59,7 +61,7 @@ record Leaves {G : Type 0} (old new : State G) (text_now : List ℕ) (prelude_no
   pub held : new.held ≡ old.held
   pub trees : new.trees ≡ old.trees
   pub given_is : new.given ≡ old.given
-  pub is_set : IsSet new old.grammar old.edition old.depth
+  pub is_set : IsSet new old.grammar old.edition old.dialect old.depth
 
 leaves_text : {G : Type 0} → (old new : State G) (text : List ℕ) → new ≡ record old { text = text } → Leaves old new text old.prelude
 leaves_text old new text e = record {
@@ -68,7 +70,7 @@ leaves_text old new text e = record {
   held = ap (λ s. s.held) e;
   trees = ap (λ s. s.trees) e;
   given_is = ap (λ s. s.given) e;
-  is_set = record { grammar_is = ap (λ s. s.grammar) e; edition_is = ap (λ s. s.edition) e; depth_is = ap (λ s. s.depth) e };
+  is_set = record { grammar_is = ap (λ s. s.grammar) e; edition_is = ap (λ s. s.edition) e; dialect_is = ap (λ s. s.dialect) e; depth_is = ap (λ s. s.depth) e };
 }
 
 leaves_prelude : {G : Type 0} → (old new : State G) (prelude : List Forest) → new ≡ record old { prelude = prelude } → Leaves old new old.text prelude
@@ -78,7 +80,7 @@ leaves_prelude old new prelude e = record {
   held = ap (λ s. s.held) e;
   trees = ap (λ s. s.trees) e;
   given_is = ap (λ s. s.given) e;
-  is_set = record { grammar_is = ap (λ s. s.grammar) e; edition_is = ap (λ s. s.edition) e; depth_is = ap (λ s. s.depth) e };
+  is_set = record { grammar_is = ap (λ s. s.grammar) e; edition_is = ap (λ s. s.edition) e; dialect_is = ap (λ s. s.dialect) e; depth_is = ap (λ s. s.depth) e };
 }
 
 leaves_all : {G : Type 0} → (old new : State G) → new ≡ old → Leaves old new old.text old.prelude
@@ -88,7 +90,7 @@ leaves_all old new e = record {
   held = ap (λ s. s.held) e;
   trees = ap (λ s. s.trees) e;
   given_is = ap (λ s. s.given) e;
-  is_set = record { grammar_is = ap (λ s. s.grammar) e; edition_is = ap (λ s. s.edition) e; depth_is = ap (λ s. s.depth) e };
+  is_set = record { grammar_is = ap (λ s. s.grammar) e; edition_is = ap (λ s. s.edition) e; dialect_is = ap (λ s. s.dialect) e; depth_is = ap (λ s. s.depth) e };
 }
 
 still : {G : Type 0} → (layers : Layers) (depth : ℕ) (old new : State G) (at next : Progress) (text : List ℕ) (prelude : List Forest) → Remembers layers depth old at
@@ -107,7 +109,7 @@ still layers depth old new at next text prelude r l same_text same_prelude same 
 pub record Goes {G : Type 0} (layers : Layers) (depth : ℕ) (old new : State G) (at : Progress) (command : Command) (answer : Answer) : Type 0 where
   pub answers : IsCommandAnswer layers depth at command answer
   pub remembers : Remembers layers depth new (after_command at command answer)
-  pub is_set : IsSet new old.grammar old.edition old.depth
+  pub is_set : IsSet new old.grammar old.edition old.dialect old.depth
 
 given_same : (m n : ℕ) → m ≡ n → (a b : List Forest) → a ≡ b → (p q : List Forest) → p ≡ q → (r s : Result ReadMeaning ReadFault) → r ≡ s
     → given_in m a p r ≡ given_in n b q s
@@ -146,7 +148,7 @@ goes_reply layers old new at r (Read e) h =
             ∙ given_same old.given (given_to layers old.depth at.readings) r.given_is old.trees (trees_last layers old.depth at.readings) r.trees old.prelude at.prelude
             r.prelude _ _ same;
       };
-      is_set = record { grammar_is = h.1.grammar; edition_is = h.1.edition; depth_is = h.1.depth };
+      is_set = record { grammar_is = h.1.grammar; edition_is = h.1.edition; dialect_is = h.1.dialect; depth_is = h.1.depth };
     }
 goes_reply layers old new at r (Unread fault) h =
     let l = leaves_all old new h.1 in
@@ -219,7 +221,7 @@ pub record GoesOn {G : Type 0} (layers : Layers) (depth : ℕ) (old new : State 
   pub answers : IsLineAnswer layers depth at line answer
   pub remembers : Remembers layers depth new (after at line answer)
   pub agree : Agree have (after at line answer).sources
-  pub is_set : IsSet new old.grammar old.edition old.depth
+  pub is_set : IsSet new old.grammar old.edition old.dialect old.depth
 
 -- nothing but the sources changes
 still_there : {G : Type 0} → (layers : Layers) (depth : ℕ) (old new : State G) (at : Progress) → Remembers layers depth old at → new ≡ old

@@ -8,6 +8,7 @@ use Rattle.tt_data.specs.Forest.{Forest}
 use Rattle.tt_data.specs.declared.edition.Edition.{Edition}
 use Rattle.mbe.specs.Grammar.{Grammar}
 use Rattle.expander_model.specs.Meaning.{Layers}
+use Rattle.expander_model.specs.declared.dialect.Dialect.{Dialect}
 use Rattle.expander_session.specs.Layered.{layers}
 use Rattle.expander_session.specs.State.{State, layers_of}
 use Rattle.replay_script.specs.LineTurns.{Answering, AnswersLine, IsNew, LineTurn, ReadsLine}
@@ -125,27 +126,28 @@ begun_more (suc n) false script lines bytes line commands answers c a b is other
 add_one : (n : ℕ) → suc n ≡ n + 1
 add_one n = omega arith
 
--- the layers of a session are those of its grammar and edition
-layers_are : {G : Type 0} → (answer : G → Grammar) (s : State G) (grammar : G) (edition : Edition) (depth : ℕ) → IsSet s grammar edition depth
-    → layers_of answer s ≡ layers (answer grammar) edition
-layers_are answer s grammar edition depth is =
-    ap (λ (g : _). layers (answer g) s.edition) is.grammar_is ∙ ap (λ (e : Edition). layers (answer grammar) e) is.edition_is
+-- the layers of a session are those of its grammar, edition and dialect
+layers_are : {G : Type 0} → (answer : G → Grammar) (s : State G) (grammar : G) (edition : Edition) (dialect : Dialect) (depth : ℕ) → IsSet s grammar edition dialect depth
+    → layers_of answer s ≡ layers (answer grammar) edition dialect
+layers_are answer s grammar edition dialect depth is =
+    ap (λ (g : _). layers (answer g) s.edition s.dialect) is.grammar_is ∙ ap (λ (e : Edition). layers (answer grammar) e s.dialect) is.edition_is
+    ∙ ap (layers (answer grammar) edition) is.dialect_is
 
 -- a turn, for the layers and the depth that a session was made with
-goes_set : {G : Type 0} → (answer_of : G → Grammar) (old new : State G) (had have : Sources) (grammar : G) (edition : Edition) (depth : ℕ) (at : Progress) (line : Line)
-    (answer : LineAnswer) → IsSet old grammar edition depth → Remembers (layers (answer_of grammar) edition) depth old at → Agree had at.sources
-    → LineTurn (layers_of answer_of old) old new had have line answer → GoesOn (layers (answer_of grammar) edition) depth old new have at line answer
-goes_set answer_of old new had have grammar edition depth at line answer is r agree turn =
-    let L : Layers = layers (answer_of grammar) edition in
+goes_set : {G : Type 0} → (answer_of : G → Grammar) (old new : State G) (had have : Sources) (grammar : G) (edition : Edition) (dialect : Dialect) (depth : ℕ) (at : Progress) (line : Line)
+    (answer : LineAnswer) → IsSet old grammar edition dialect depth → Remembers (layers (answer_of grammar) edition dialect) depth old at → Agree had at.sources
+    → LineTurn (layers_of answer_of old) old new had have line answer → GoesOn (layers (answer_of grammar) edition dialect) depth old new have at line answer
+goes_set answer_of old new had have grammar edition dialect depth at line answer is r agree turn =
+    let L : Layers = layers (answer_of grammar) edition dialect in
     subst (λ (n : ℕ). GoesOn L n old new have at line answer) is.depth_is
     (goes_line L old new had have at line answer (subst (λ (n : ℕ). Remembers L n old at) (sym is.depth_is) r) agree
-    (subst (λ (l : Layers). LineTurn l old new had have line answer) (layers_are answer_of old grammar edition depth is) turn))
+    (subst (λ (l : Layers). LineTurn l old new had have line answer) (layers_are answer_of old grammar edition dialect depth is) turn))
 
 -- ---- where a script stands
 
-module _ {G : Type 0} (answer_of : G → Grammar) (grammar : G) (edition : Edition) (depth : ℕ) (prelude : List Forest) where
+module _ {G : Type 0} (answer_of : G → Grammar) (grammar : G) (edition : Edition) (dialect : Dialect) (depth : ℕ) (prelude : List Forest) where
   abbrev its_layers : Layers
-  its_layers = layers (answer_of grammar) edition
+  its_layers = layers (answer_of grammar) edition dialect
 
   -- after these many lines: what was read, the answers, and the session and the sources that go on
   pub record Far (s : State G) (kept : Sources) (had now : Option (List ℕ)) (count : ℕ) (origins : Bool) (told : List ℕ) : Type 0 where
@@ -157,7 +159,7 @@ module _ {G : Type 0} (answer_of : G → Grammar) (grammar : G) (edition : Editi
     pub read : Consumes had now script
     pub begun : Begun count origins script rest lines answers
     pub said : AreSaid rest lines []
-    pub is_set : IsSet s grammar edition depth
+    pub is_set : IsSet s grammar edition dialect depth
     pub remembers : Remembers its_layers depth s at
     pub agree : Agree kept at.sources
     -- whatever answers the lines that are left makes the answers so far those of all
@@ -166,7 +168,7 @@ module _ {G : Type 0} (answer_of : G → Grammar) (grammar : G) (edition : Editi
     pub is_told : told ≡ all_told origins answers
     pub counted : count ≡ length lines + (if origins then 1 else 0)
 
-  pub far_first : (s : State G) (kept : Sources) (had : Option (List ℕ)) → IsNew s → s.prelude ≡ prelude → IsSet s grammar edition depth
+  pub far_first : (s : State G) (kept : Sources) (had : Option (List ℕ)) → IsNew s → s.prelude ≡ prelude → IsSet s grammar edition dialect depth
       → ((n : ℕ) → source_in kept n ≡ None) → Far s kept had had 0 false []
   far_first s kept had new is set none = record {
     script = [];
@@ -212,7 +214,7 @@ module _ {G : Type 0} (answer_of : G → Grammar) (grammar : G) (edition : Editi
       → Consumes mid now bytes → Answering (layers_of answer_of old) old new kept have bytes origins more → (n ≡ 0 → bytes ≢ asking)
       → Far new have had now (n + 1) origins (told ++ more)
   far_line old new kept have had mid now n origins told more bytes far read line other =
-      let g = goes_set answer_of old new kept have grammar edition depth far.at line.asked line.answer far.is_set far.remembers far.agree line.turn in
+      let g = goes_set answer_of old new kept have grammar edition dialect depth far.at line.asked line.answer far.is_set far.remembers far.agree line.turn in
       record {
         script = far.script ++ bytes;
         rest = far.rest ++ bytes;
@@ -227,6 +229,7 @@ module _ {G : Type 0} (answer_of : G → Grammar) (grammar : G) (edition : Editi
         is_set = record {
           grammar_is = g.is_set.grammar_is ∙ far.is_set.grammar_is;
           edition_is = g.is_set.edition_is ∙ far.is_set.edition_is;
+          dialect_is = g.is_set.dialect_is ∙ far.is_set.dialect_is;
           depth_is = g.is_set.depth_is ∙ far.is_set.depth_is;
         };
         remembers = g.remembers;

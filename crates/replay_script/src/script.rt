@@ -177,6 +177,7 @@ fn opened<G: FragmentGrammar + Drop>(
       text = [];
       grammar = options.grammar;
       edition = options.edition;
+      dialect = options.dialect;
       depth = options.depth;
       prelude = prelude;
       held = None;
@@ -187,17 +188,18 @@ fn opened<G: FragmentGrammar + Drop>(
     let Options {
         grammar,
         edition,
+        dialect,
         depth,
     } = options;
-    let mut session = Session::new(alloc, "", grammar, edition, depth)?;
+    let mut session = Session::with_dialect(alloc, "", grammar, edition, dialect, depth)?;
     session.set_prelude(prelude);
     Ok(session)
 }
 
-/// Answers the lines of a script, up to its end or its first wrong line, by a grammar, an edition
-/// and a number of levels. Up to its first `prelude` line the text is expanded after this prelude.
-/// The answer to a line is written and flushed before the next line is read. The forms of lines and
-/// answers are at the head of this crate. The writer has not failed before.
+/// Answers the lines of a script, up to its end or its first wrong line, by a grammar, an edition,
+/// a dialect and a number of levels. Up to its first `prelude` line the text is expanded after
+/// this prelude. The answer to a line is written and flushed before the next line is read. The
+/// forms of lines and answers are at the head of this crate. The writer has not failed before.
 pub fn answer_script<G: FragmentGrammar + Drop, R: BufRead, W: Write>(
     alloc: Global,
     reader: &mut R,

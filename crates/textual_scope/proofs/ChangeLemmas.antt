@@ -1,5 +1,6 @@
 -- A search at other spans gives its result at these.
 use Rattle.std.proofs.Common.{◌≡◌, ℕ, zero, suc, Bool, true, false, List, [], ◌∷◌, ◌++◌, map, Option, Some, None, refl, ap, sym, ◌∙◌, unwrap_or, option_map, if◌then◌else◌}
+use Rattle.std.specs.Prelude.{◌&&◌, not, is_some}
 use Rattle.std.proofs.lemmas.List.{map-append}
 use Rattle.tt_data.specs.Forest.{Forest, empty, leaf, group, map_spans, size}
 use Rattle.tt_data.specs.Spans.{leaf_with, delimiter_with}
@@ -7,6 +8,7 @@ use Rattle.tt_data.specs.Walk.{at_leaf, walk}
 use Rattle.tt_data.proofs.ForestLemmas.{size-map_spans}
 use Rattle.tt_data.specs.declared.delimiter.Delimiter.{Delimiter}
 use Rattle.tt_data.specs.declared.leaf.Ident.{Ident}
+use Rattle.tt_data.specs.declared.leaf.Leaf.{Leaf}
 use Rattle.tt_data.specs.declared.leaf.Leaf.TheVariants as as_leaf
 use Rattle.tt_data.specs.declared.leaf.Punct.{Punct}
 use Rattle.tt_data.specs.declared.span.Span.{Span}
@@ -15,18 +17,24 @@ use Rattle.small_grammar.specs.Text.{same_text}
 use Rattle.expander_model.specs.declared.fault.FaultKind.TheVariants.{CannotExpand, BrokenDefinition, RecursionLimit}
 use Rattle.expander_model.specs.Calls.{Path, bare, from_crate, other, Marked, none, token, inside, call, marked, unmarked, key_of}
 use Rattle.expander_model.specs.Changes.{outcome_with, Changes, ScopeChange}
-use Rattle.expander_model.specs.Definitions.{Definition, nearest}
+use Rattle.expander_model.specs.Definitions.{Definition, nearest, or_else}
+use Rattle.expander_model.specs.Pieces.{cut}
 use Rattle.expander_model.specs.Expansion.{World, Outcome, CallSite, just, followed_by, grouped, faulted, found, bursting, before_group, whole_call}
 use Rattle.expander_model.specs.OtherPlaces.{definition_with}
 use Rattle.expander_model.proofs.DefinitionPlaceLemmas.{definition_of-with}
+use Rattle.expander_model.specs.PieceStates.{after_call, after_group, after_leaf, is_dropped}
+use Rattle.expander_model.specs.declared.begun.Begun.{Begun}
+use Rattle.expander_model.specs.declared.begun.Begun.TheVariants.{Nothing}
+use Rattle.expander_model.specs.declared.dialect.Dialect.{Dialect}
 use Rattle.expander_model.specs.declared.scope_rules.ScopeRules.{ScopeRules}
 use Rattle.expander_model.specs.declared.scope_rules.ScopeRules.TheVariants.{TopLevel, Rust}
 use Rattle.textual_scope.specs.ScopeChanges.{around_with, scoped_with}
-use Rattle.expander_model.specs.declared.scope_rules.Standing.TheVariants.{Top, Enclosed, Argument}
+use Rattle.expander_model.specs.declared.scope_rules.Standing.TheVariants.{Argument}
 use Rattle.expander_model.specs.declared.scope_rules.Standing.{Standing}
-use Rattle.expander_model.specs.Scoping.{Around, Scoped, Search, parts, definition_in, is_left_out, in_group, behind, only, and_next, in_brackets, defined, fitted, at_level, unbroken, looked_up, at_key, at_call, kept_call, search_trees, search_part, search_parts, search_list, scoped}
+use Rattle.expander_model.specs.Scoping.{Around, Scoped, Search, definition_in, is_left_out, in_group, behind, only, and_next, in_brackets, defined, fitted, at_level, unbroken, looked_up, at_key, at_call, kept_call, search_leaf, found_at, is_expanded, is_alone_in, takes_end, search_trees, search_piece, search_pieces, search_list, scoped}
 use Rattle.textual_scope.proofs.MarkChangeLemmas.{ident_with, punct_with, path_with, marked_with, marked-with, in_front-with, unmarked-with, cut-with, outer-with, site_with, followed-with, just-with, walk-with, grouped-with, stays-with}
 use Rattle.textual_scope.proofs.ResultLemmas.{scoped_same}
+use Rattle.textual_scope.proofs.StateLemmas.{after_leaf-with, is_dropped-with}
 
 -- the definition that a name finds, among these at other spans
 nearest-with : (f : Span → Span) (locals : List Definition) (name : List ℕ) → nearest (map (definition_with f) locals) name ≡ option_map (definition_with f) (nearest locals name)
@@ -36,10 +44,6 @@ nearest-with f (d ∷ locals) name =
     (λ b. (if b then Some (definition_with f d) else nearest (map (definition_with f) locals) name) ≡ option_map (definition_with f) (if b then Some d else nearest locals name))
     [ true ↦ refl | false ↦ nearest-with f locals name ]
 
-parts-with : (f : Span → Span) (rules : ScopeRules) (g : Forest) → parts rules (map_spans f g) ≡ map (map_spans f) (parts rules g)
-parts-with f TopLevel g = refl
-parts-with f Rust g = cut-with f g
-
 definition_in-with : (f : Span → Span) (rules : ScopeRules) (g : Forest) → definition_in rules (map_spans f g) ≡ option_map (definition_with f) (definition_in rules g)
 definition_in-with f TopLevel g = refl
 definition_in-with f Rust g = definition_of-with f g
@@ -47,10 +51,9 @@ definition_in-with f Rust g = definition_of-with f g
 behind-with : (f : Span → Span) (ds : List Definition) (around : Around) → behind (map (definition_with f) ds) (around_with f around) ≡ around_with f (behind ds around)
 behind-with f ds around = ap (λ l. record { standing = around.standing; outer = option_map f around.outer; locals = l }) (sym (map-append (definition_with f) ds around.locals))
 
-in_group-with : (f : Span → Span) (d : Delimiter) (standing : Standing) → in_group (delimiter_with f d) standing ≡ in_group d standing
-in_group-with f d Top = refl
-in_group-with f d Enclosed = refl
-in_group-with f d Argument = refl
+some-map : {X Y : Type 0} → (g : X → Y) (o : Option X) → is_some (option_map g o) ≡ is_some o
+some-map g None = refl
+some-map g (Some x) = refl
 
 module _ {D E : Type 0} (f : Span → Span) (h : D → E) where
   next-with : (a : Scoped D) (b : Scoped E) (one : Around → Scoped D) (two : Around → Scoped E) (around : Around)
@@ -99,9 +102,9 @@ module _ {D E : Type 0} (f : Span → Span) (h : D → E) where
   DeeperWith None (Some two) = ⊥
   DeeperWith (Some one) None = ⊥
 
-  module _ (rules : ScopeRules) (w : World D) (v : World E) (c : Changes f h w v) (local : Definition → D) (local' : Definition → E) (made : (d : Definition) → local' (definition_with f d) ≡ h (local d))
+  module _ (dialect : Dialect) (w : World D) (v : World E) (c : Changes f h w v) (local : Definition → D) (local' : Definition → E) (made : (d : Definition) → local' (definition_with f d) ≡ h (local d))
       (scope : List ℕ → Option D) (changed : List ℕ → Option E) (finds : ScopeChange h scope changed) where
-    defined-with : (around : Around) (d : Definition) → defined rules v local' changed (around_with f around) (definition_with f d) ≡ scoped_with f h (defined rules w local scope around d)
+    defined-with : (around : Around) (d : Definition) → defined dialect v local' changed (around_with f around) (definition_with f d) ≡ scoped_with f h (defined dialect w local scope around d)
     defined-with around d =
         let left : Bool = is_left_out around.standing in
         let shown : Outcome E = just (option_map f around.outer) (if left then [] else walk (map_spans f d.piece)) in
@@ -112,17 +115,17 @@ module _ {D E : Type 0} (f : Span → Span) (h : D → E) where
         ∙ told-with (w.broken (local d)) left around.outer d) refl
 
     fitted-with : (one : Search D) (two : Search E) → SameWith one two → (around : Around) (site : CallSite) (r : Option Forest)
-        → fitted rules v local' changed two (around_with f around) (site_with f site) (option_map (map_spans f) r) ≡ scoped_with f h (fitted rules w local scope one around site r)
+        → fitted dialect v local' changed two (around_with f around) (site_with f site) (option_map (map_spans f) r) ≡ scoped_with f h (fitted dialect w local scope one around site r)
     fitted-with one two same around site None = ap (λ (o : Outcome E). only o) (stays-with f h CannotExpand around.outer site)
     fitted-with one two same around site (Some g) =
         ap (λ (s : Span). two (record { standing = around.standing; outer = Some s; locals = map (definition_with f) around.locals }) (map_spans f g)) (outer-with f around.outer site.at)
         ∙ same (record around { outer = Some (unwrap_or around.outer site.at) }) g
 
     level-with : (d : D) (one : Option (Search D)) (two : Option (Search E)) → DeeperWith one two → (around : Around) (site : CallSite)
-        → at_level rules v local' changed (h d) two (around_with f around) (site_with f site) ≡ scoped_with f h (at_level rules w local scope d one around site)
+        → at_level dialect v local' changed (h d) two (around_with f around) (site_with f site) ≡ scoped_with f h (at_level dialect w local scope d one around site)
     level-with d None None same around site = ap (λ (o : Outcome E). only o) (stays-with f h RecursionLimit around.outer site)
     level-with d (Some one) (Some two) same around site =
-        let here : Option Forest → Scoped E = λ r. fitted rules v local' changed two (around_with f around) (site_with f site) r in
+        let here : Option Forest → Scoped E = λ r. fitted dialect v local' changed two (around_with f around) (site_with f site) r in
         ap (λ (b : Bool). let a : Scoped E = here (v.fit (h d) (map_spans f site.argument)) in record a { outcome = bursting b a.outcome }) (c.bursts d site.argument)
         ∙ ap (λ (a : Scoped E). record a { outcome = bursting (w.bursts d site.argument) a.outcome })
         (ap here (c.fit d site.argument) ∙ fitted-with one two same around site (w.fit d site.argument))
@@ -130,44 +133,86 @@ module _ {D E : Type 0} (f : Span → Span) (h : D → E) where
     level-with d (Some one) None same around site = absurd same
 
     unbroken-with : (d : D) (b : Bool) (one : Option (Search D)) (two : Option (Search E)) → DeeperWith one two → (around : Around) (site : CallSite)
-        → unbroken rules v local' changed (h d) b two (around_with f around) (site_with f site) ≡ scoped_with f h (unbroken rules w local scope d b one around site)
+        → unbroken dialect v local' changed (h d) b two (around_with f around) (site_with f site) ≡ scoped_with f h (unbroken dialect w local scope d b one around site)
     unbroken-with d true one two same around site = ap (λ (o : Outcome E). only o) (stays-with f h BrokenDefinition around.outer site)
     unbroken-with d false one two same around site = level-with d one two same around site
 
     looked_up-with : (r : Option D) (one : Option (Search D)) (two : Option (Search E)) → DeeperWith one two → (around : Around) (site : CallSite)
         → (kept : Scoped D) (kept' : Scoped E) → kept' ≡ scoped_with f h kept
-        → looked_up rules v local' changed (option_map h r) two (around_with f around) (site_with f site) kept' ≡ scoped_with f h (looked_up rules w local scope r one around site kept)
+        → looked_up dialect v local' changed (option_map h r) two (around_with f around) (site_with f site) kept' ≡ scoped_with f h (looked_up dialect w local scope r one around site kept)
     looked_up-with None one two same around site kept kept' e = e
     looked_up-with (Some d) one two same around site kept kept' e =
-        ap (λ (b : Bool). unbroken rules v local' changed (h d) b two (around_with f around) (site_with f site)) (c.broken d)
+        ap (λ (b : Bool). unbroken dialect v local' changed (h d) b two (around_with f around) (site_with f site)) (c.broken d)
         ∙ unbroken-with d (w.broken d) one two same around site
 
     key-with : (r : Option Definition) (key : List ℕ) (one : Option (Search D)) (two : Option (Search E)) → DeeperWith one two → (around : Around) (site : CallSite)
         → (kept : Scoped D) (kept' : Scoped E) → kept' ≡ scoped_with f h kept
-        → at_key rules v local' changed (option_map (definition_with f) r) key two (around_with f around) (site_with f site) kept'
-        ≡ scoped_with f h (at_key rules w local scope r key one around site kept)
+        → at_key dialect v local' changed (option_map (definition_with f) r) key two (around_with f around) (site_with f site) kept'
+        ≡ scoped_with f h (at_key dialect w local scope r key one around site kept)
     key-with (Some d) key one two same around site kept kept' e =
-        ap (λ (x : E). looked_up rules v local' changed (Some x) two (around_with f around) (site_with f site) kept') (made d)
+        ap (λ (x : E). looked_up dialect v local' changed (Some x) two (around_with f around) (site_with f site) kept') (made d)
         ∙ looked_up-with (Some (local d)) one two same around site kept kept' e
     key-with None key one two same around site kept kept' e =
-        ap (λ (r : Option E). let a : Scoped E = looked_up rules v local' changed r two (around_with f around) (site_with f site) kept' in
+        ap (λ (r : Option E). let a : Scoped E = looked_up dialect v local' changed r two (around_with f around) (site_with f site) kept' in
         record a { outcome = found key r a.outcome }) (finds key)
         ∙ ap (λ (a : Scoped E). record a { outcome = found key (option_map h (scope key)) a.outcome }) (looked_up-with (scope key) one two same around site kept kept' e)
 
     call-with : (path : Path) (name : Ident) (one : Option (Search D)) (two : Option (Search E)) → DeeperWith one two → (around : Around) (site : CallSite)
         → (kept : Scoped D) (kept' : Scoped E) → kept' ≡ scoped_with f h kept
-        → at_call rules v local' changed two (around_with f around) (path_with f path) (ident_with f name) (site_with f site) kept'
-        ≡ scoped_with f h (at_call rules w local scope one around path name site kept)
+        → at_call dialect v local' changed two (around_with f around) (path_with f path) (ident_with f name) (site_with f site) kept'
+        ≡ scoped_with f h (at_call dialect w local scope one around path name site kept)
     call-with bare name one two same around site kept kept' e =
-        ap (λ (r : Option Definition). at_key rules v local' changed r name.sym two (around_with f around) (site_with f site) kept') (nearest-with f around.locals name.sym)
+        ap (λ (r : Option Definition). at_key dialect v local' changed r name.sym two (around_with f around) (site_with f site) kept') (nearest-with f around.locals name.sym)
         ∙ key-with (nearest around.locals name.sym) name.sym one two same around site kept kept' e
     call-with (from_crate root p q) name one two same around site kept kept' e = key-with None (key_of (from_crate root p q) name) one two same around site kept kept' e
     call-with (other p q) name one two same around site kept kept' e = e
 
+    leaf-with : (s : Begun) (around : Around) (l : Leaf)
+        → search_leaf dialect v local' changed s (around_with f around) (leaf_with f l) ≡ scoped_with f h (search_leaf dialect w local scope s around l)
+    leaf-with s around l =
+        ap (λ (b : Bool). let o : Outcome E = just (option_map f around.outer) (if b then [] else at_leaf (leaf_with f l) ∷ []) in only o) (is_dropped-with f s l)
+        ∙ go (is_dropped s l)
+      where
+        go : (b : Bool) → (let o : Outcome E = just (option_map f around.outer) (if b then [] else at_leaf (leaf_with f l) ∷ []) in only o)
+            ≡ scoped_with f h (let o : Outcome D = just around.outer (if b then [] else at_leaf l ∷ []) in only o)
+        go true = only-with (just around.outer []) _ (just-with f h around.outer [])
+        go false = only-with (just around.outer (at_leaf l ∷ [])) _ (just-with f h around.outer (at_leaf l ∷ []))
+
+    -- what a call's name finds
+    found_at-with : (around : Around) (path : Path) (name : Ident)
+        → found_at dialect v local' changed (around_with f around) (path_with f path) (ident_with f name) ≡ option_map h (found_at dialect w local scope around path name)
+    found_at-with around bare name =
+        ap (λ (r : Option Definition). or_else (option_map local' r) (changed name.sym)) (nearest-with f around.locals name.sym) ∙ go (nearest around.locals name.sym)
+      where
+        go : (r : Option Definition) → or_else (option_map local' (option_map (definition_with f) r)) (changed name.sym) ≡ option_map h (or_else (option_map local r) (scope name.sym))
+        go None = finds name.sym
+        go (Some x) = ap Some (made x)
+    found_at-with around (from_crate root p q) name = finds (key_of (from_crate root p q) name)
+    found_at-with around (other p q) name = refl
+
+    expanded-with : (one : Option (Search D)) (two : Option (Search E)) → DeeperWith one two → (r : Option D) (argument : Forest)
+        → is_expanded dialect v local' changed two (option_map h r) (map_spans f argument) ≡ is_expanded dialect w local scope one r argument
+    expanded-with None None same r argument = refl
+    expanded-with (Some one) (Some two) same None argument = refl
+    expanded-with (Some one) (Some two) same (Some d) argument =
+        ap (λ (b : Bool). not b && is_some (v.fit (h d) (map_spans f argument))) (c.broken d)
+        ∙ ap (λ (b : Bool). not (w.broken d) && b) (ap is_some (c.fit d argument) ∙ some-map (map_spans f) (w.fit d argument))
+    expanded-with None (Some two) same r argument = absurd same
+    expanded-with (Some one) None same r argument = absurd same
+
+    -- whether a `;` goes with the call
+    end-with : (s : Begun) (around : Around) (path : Path) (name : Ident) (d : Delimiter) (argument : Forest) (one : Option (Search D)) (two : Option (Search E)) → DeeperWith one two
+        → takes_end dialect v local' changed two s (around_with f around) (path_with f path) (ident_with f name) (delimiter_with f d) (map_spans f argument)
+        ≡ takes_end dialect w local scope one s around path name d argument
+    end-with s around path name d argument one two same =
+        let alone : Bool = is_alone_in dialect s around.standing d in
+        ap (λ (r : Option E). alone && is_expanded dialect v local' changed two r (map_spans f argument)) (found_at-with around path name)
+        ∙ ap (λ (b : Bool). alone && b) (expanded-with one two same (found_at dialect w local scope around path name) argument)
+
     module _ (one : Search D) (two : Search E) (same : SameWith one two) (deep : Option (Search D)) (deep' : Option (Search E)) (deeper : DeeperWith deep deep') where
       kept-with : (around : Around) (path : Path) (name : Ident) (bang : Punct) (d : Delimiter) (inner : Forest)
-          → kept_call rules v local' changed two (around_with f around) (path_with f path) (ident_with f name) (punct_with f bang) (delimiter_with f d) (map_spans f inner)
-          ≡ scoped_with f h (kept_call rules w local scope one around path name bang d inner)
+          → kept_call dialect v local' changed two (around_with f around) (path_with f path) (ident_with f name) (punct_with f bang) (delimiter_with f d) (map_spans f inner)
+          ≡ scoped_with f h (kept_call dialect w local scope one around path name bang d inner)
       kept-with around path name bang d inner =
           let lead : Outcome D = just around.outer (walk (before_group path name bang)) in
           let held : Scoped D = one (record around { standing = Argument }) inner in
@@ -182,69 +227,75 @@ module _ {D E : Type 0} (f : Span → Span) (h : D → E) where
           ∙ ap (followed_by (outcome_with f h lead)) (grouped-with f h around.outer d held.outcome)
           ∙ sym (followed-with f h lead (grouped around.outer d held.outcome)))
 
-      trees-with : (around : Around) (m : Marked)
-          → search_trees rules v local' changed two deep' (around_with f around) (marked_with f m) ≡ scoped_with f h (search_trees rules w local scope one deep around m)
-      trees-with around none = ap (λ (o : Outcome E). only o) (just-with f h around.outer [])
-      trees-with around (token l rest) =
-          next-with (only (just around.outer (at_leaf l ∷ []))) (only (just (option_map f around.outer) (at_leaf (leaf_with f l) ∷ [])))
-          (λ here. search_trees rules w local scope one deep here rest) (λ here. search_trees rules v local' changed two deep' here (marked_with f rest))
-          around (only-with (just around.outer (at_leaf l ∷ [])) _ (just-with f h around.outer (at_leaf l ∷ []))) (λ here. trees-with here rest)
-      trees-with around (inside d a rest) =
-          let inner : Around = record around { standing = in_group d around.standing } in
+      trees-with : (s : Begun) (around : Around) (m : Marked)
+          → search_trees dialect v local' changed two deep' s (around_with f around) (marked_with f m) ≡ scoped_with f h (search_trees dialect w local scope one deep s around m)
+      trees-with s around none = ap (λ (o : Outcome E). only o) (just-with f h around.outer [])
+      trees-with s around (token l rest) =
+          next-with (search_leaf dialect w local scope s around l) (search_leaf dialect v local' changed s (around_with f around) (leaf_with f l))
+          (λ here. search_trees dialect w local scope one deep (after_leaf s l) here rest) (λ here. search_trees dialect v local' changed two deep' (after_leaf s (leaf_with f l)) here (marked_with f rest))
+          around (leaf-with s around l)
+          (λ here. ap (λ (t : Begun). search_trees dialect v local' changed two deep' t (around_with f here) (marked_with f rest)) (after_leaf-with f s l) ∙ trees-with (after_leaf s l) here rest)
+      trees-with s around (inside d a rest) =
+          let inner : Around = record around { standing = in_group s d.kind around.standing } in
           let within : Standing → Forest → Scoped E = λ s g. two (record { standing = s; outer = option_map f around.outer; locals = map (definition_with f) around.locals }) g in
           next-with (in_brackets around.outer d (one inner (unmarked a)))
-          (in_brackets (option_map f around.outer) (delimiter_with f d) (within (in_group (delimiter_with f d) around.standing) (unmarked (marked_with f a))))
-          (λ here. search_trees rules w local scope one deep here rest) (λ here. search_trees rules v local' changed two deep' here (marked_with f rest))
+          (in_brackets (option_map f around.outer) (delimiter_with f d) (within (in_group s d.kind around.standing) (unmarked (marked_with f a))))
+          (λ here. search_trees dialect w local scope one deep (after_group s d.kind) here rest) (λ here. search_trees dialect v local' changed two deep' (after_group s d.kind) here (marked_with f rest))
           around
           (ap (in_brackets (option_map f around.outer) (delimiter_with f d))
-          (ap (λ s. within s (unmarked (marked_with f a))) (in_group-with f d around.standing) ∙ ap (within (in_group d around.standing)) (unmarked-with f a) ∙ same inner (unmarked a))
+          (ap (within (in_group s d.kind around.standing)) (unmarked-with f a) ∙ same inner (unmarked a))
           ∙ brackets-with around.outer d (one inner (unmarked a)))
-          (λ here. trees-with here rest)
-      trees-with around (call path name bang d a rest) =
+          (λ here. trees-with (after_group s d.kind) here rest)
+      trees-with s around (call path name bang d a rest) =
           let site : CallSite = record { at = name.span; whole = whole_call path name bang d (unmarked a); argument = unmarked a } in
-          let kept : Scoped D = kept_call rules w local scope one around path name bang d (unmarked a) in
-          let kept' : Forest → Scoped E = λ g. kept_call rules v local' changed two (around_with f around) (path_with f path) (ident_with f name) (punct_with f bang) (delimiter_with f d) g in
+          let kept : Scoped D = kept_call dialect w local scope one around path name bang d (unmarked a) in
+          let kept' : Forest → Scoped E = λ g. kept_call dialect v local' changed two (around_with f around) (path_with f path) (ident_with f name) (punct_with f bang) (delimiter_with f d) g in
           let there : Forest → Forest → Scoped E = λ whole g.
-          at_call rules v local' changed deep' (around_with f around) (path_with f path) (ident_with f name) (record { at = f name.span; whole = whole; argument = g }) (kept' g) in
+          at_call dialect v local' changed deep' (around_with f around) (path_with f path) (ident_with f name) (record { at = f name.span; whole = whole; argument = g }) (kept' g) in
           let whole' : Forest → Forest = λ g. whole_call (path_with f path) (ident_with f name) (punct_with f bang) (delimiter_with f d) g in
-          next-with (at_call rules w local scope deep around path name site kept) (there (whole' (unmarked (marked_with f a))) (unmarked (marked_with f a)))
-          (λ here. search_trees rules w local scope one deep here rest) (λ here. search_trees rules v local' changed two deep' here (marked_with f rest))
+          let gone : Bool = takes_end dialect w local scope deep s around path name d (unmarked a) in
+          let gone' : Forest → Bool = λ g. takes_end dialect v local' changed deep' s (around_with f around) (path_with f path) (ident_with f name) (delimiter_with f d) g in
+          next-with (at_call dialect w local scope deep around path name site kept) (there (whole' (unmarked (marked_with f a))) (unmarked (marked_with f a)))
+          (λ here. search_trees dialect w local scope one deep (after_call gone s d.kind) here rest) (λ here. search_trees dialect v local' changed two deep' (after_call (gone' (unmarked (marked_with f a))) s d.kind) here (marked_with f rest))
           around
           (ap (λ g. there (whole' g) g) (unmarked-with f a)
           ∙ ap (λ whole. there whole (map_spans f (unmarked a))) (in_front-with f path (leaf (as_leaf.Ident name) (leaf (as_leaf.Punct bang) (group d (unmarked a) empty))))
           ∙ call-with path name deep deep' deeper around site kept (kept' (map_spans f (unmarked a))) (kept-with around path name bang d (unmarked a)))
-          (λ here. trees-with here rest)
+          (λ here.
+          ap (λ (t : Bool). search_trees dialect v local' changed two deep' (after_call t s d.kind) (around_with f here) (marked_with f rest))
+          (ap gone' (unmarked-with f a) ∙ end-with s around path name d (unmarked a) deep deep' deeper)
+          ∙ trees-with (after_call gone s d.kind) here rest)
 
       part-with : (around : Around) (p : Forest) (d : Option Definition)
-          → search_part rules v local' changed two deep' (around_with f around) (map_spans f p) (option_map (definition_with f) d)
-          ≡ scoped_with f h (search_part rules w local scope one deep around p d)
+          → search_piece dialect v local' changed two deep' (around_with f around) (map_spans f p) (option_map (definition_with f) d)
+          ≡ scoped_with f h (search_piece dialect w local scope one deep around p d)
       part-with around p (Some d) = defined-with around d
       part-with around p None =
-          ap (search_trees rules v local' changed two deep' (around_with f around)) (marked-with f p) ∙ trees-with around (marked p)
+          ap (search_trees dialect v local' changed two deep' Nothing (around_with f around)) (marked-with f p) ∙ trees-with Nothing around (marked p)
 
       parts_of-with : (around : Around) (ps : List Forest)
-          → search_parts rules v local' changed two deep' (around_with f around) (map (map_spans f) ps) ≡ scoped_with f h (search_parts rules w local scope one deep around ps)
+          → search_pieces dialect v local' changed two deep' (around_with f around) (map (map_spans f) ps) ≡ scoped_with f h (search_pieces dialect w local scope one deep around ps)
       parts_of-with around [] = ap (λ (o : Outcome E). only o) (just-with f h around.outer [])
       parts_of-with around (p ∷ ps) =
-          next-with (search_part rules w local scope one deep around p (definition_in rules p))
-          (search_part rules v local' changed two deep' (around_with f around) (map_spans f p) (definition_in rules (map_spans f p)))
-          (λ here. search_parts rules w local scope one deep here ps) (λ here. search_parts rules v local' changed two deep' here (map (map_spans f) ps))
+          next-with (search_piece dialect w local scope one deep around p (definition_in dialect.scope p))
+          (search_piece dialect v local' changed two deep' (around_with f around) (map_spans f p) (definition_in dialect.scope (map_spans f p)))
+          (λ here. search_pieces dialect w local scope one deep here ps) (λ here. search_pieces dialect v local' changed two deep' here (map (map_spans f) ps))
           around
-          (ap (search_part rules v local' changed two deep' (around_with f around) (map_spans f p)) (definition_in-with f rules p) ∙ part-with around p (definition_in rules p))
+          (ap (search_piece dialect v local' changed two deep' (around_with f around) (map_spans f p)) (definition_in-with f dialect.scope p) ∙ part-with around p (definition_in dialect.scope p))
           (λ here. parts_of-with here ps)
 
     list-with : (deep : Option (Search D)) (deep' : Option (Search E)) → DeeperWith deep deep' → (n : ℕ)
-        → SameWith (search_list rules w local scope deep n) (search_list rules v local' changed deep' n)
+        → SameWith (search_list dialect w local scope deep n) (search_list dialect v local' changed deep' n)
     list-with deep deep' deeper zero around g = ap (λ (o : Outcome E). only o) (just-with f h around.outer [])
     list-with deep deep' deeper (suc n) around g =
-        ap (search_parts rules v local' changed (search_list rules v local' changed deep' n) deep' (around_with f around)) (parts-with f rules g)
-        ∙ parts_of-with (search_list rules w local scope deep n) (search_list rules v local' changed deep' n) (list-with deep deep' deeper n) deep deep' deeper around (parts rules g)
+        ap (search_pieces dialect v local' changed (search_list dialect v local' changed deep' n) deep' (around_with f around)) (cut-with f g)
+        ∙ parts_of-with (search_list dialect w local scope deep n) (search_list dialect v local' changed deep' n) (list-with deep deep' deeper n) deep deep' deeper around (cut g)
 
     -- the law
-    pub scoped-with : (n : ℕ) → SameWith (scoped rules w local scope n) (scoped rules v local' changed n)
+    pub scoped-with : (n : ℕ) → SameWith (scoped dialect w local scope n) (scoped dialect v local' changed n)
     scoped-with zero around g =
-        ap (λ k. search_list rules v local' changed None (suc k) (around_with f around) (map_spans f g)) (size-map_spans f g)
+        ap (λ k. search_list dialect v local' changed None (suc k) (around_with f around) (map_spans f g)) (size-map_spans f g)
         ∙ list-with None None tt (suc (size g)) around g
     scoped-with (suc n) around g =
-        ap (λ k. search_list rules v local' changed (Some (scoped rules v local' changed n)) (suc k) (around_with f around) (map_spans f g)) (size-map_spans f g)
-        ∙ list-with (Some (scoped rules w local scope n)) (Some (scoped rules v local' changed n)) (scoped-with n) (suc (size g)) around g
+        ap (λ k. search_list dialect v local' changed (Some (scoped dialect v local' changed n)) (suc k) (around_with f around) (map_spans f g)) (size-map_spans f g)
+        ∙ list-with (Some (scoped dialect w local scope n)) (Some (scoped dialect v local' changed n)) (scoped-with n) (suc (size g)) around g

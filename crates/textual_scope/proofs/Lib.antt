@@ -3,6 +3,7 @@ pub mod MarkLemmas
 pub mod AgreementLemmas
 pub mod FindsLemmas
 pub mod SizeLemmas
+pub mod StateLemmas
 pub mod ChainLemmas
 pub mod PlainLemmas
 pub mod KeywordLemmas

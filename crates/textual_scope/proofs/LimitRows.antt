@@ -10,14 +10,14 @@ use Rattle.textual_scope.specs.Limits.{too_large}
 use Rattle.expander_model.specs.declared.scope_rules.Standing.TheVariants.{Top}
 use Rattle.expander_model.specs.Scoping.{without_locals}
 use Rattle.textual_scope.proofs.Lines.{trees}
-use Rattle.textual_scope.proofs.Rows.{toy}
+use Rattle.textual_scope.proofs.Rows.{by, toy}
 
 -- the names that are looked up before a limit is passed, where an outermost call gave the second
 -- line and two levels are left, in the scope of the first
 abbrev passed : ℕ → ℕ → String → String → Option (List (List ℕ))
 passed calls tokens before line =
     option_map (map (λ find. find.0))
-    (too_large Rust toy (λ d. d) (nearest (definitions_after [] (pieces (trees before))))
+    (too_large (by Rust) (toy (by Rust)) (λ d. d) (nearest (definitions_after [] (pieces (trees before))))
     (record { calls = calls; tokens = tokens }) 2 (without_locals Top None) (trees line))
 
 -- six tokens, twelve and twenty-four of seven calls in all

@@ -1,17 +1,23 @@
 -- An expansion with its notes is the expansion.
 use Rattle.std.proofs.Common.{◌≡◌, ℕ, zero, suc, Bool, true, false, List, [], ◌∷◌, ◌++◌, Option, Some, None, refl, ap, ◌∙◌, unwrap_or, option_map, if◌then◌else◌}
+use Rattle.std.specs.Prelude.{◌&&◌}
 use Rattle.tt_data.specs.Forest.{Forest, size}
-use Rattle.tt_data.specs.Walk.{Step, at_leaf, walk}
+use Rattle.tt_data.specs.Walk.{Step, walk}
 use Rattle.tt_data.specs.declared.span.Span.{Span}
 use Rattle.expander_model.specs.declared.fault.FaultKind.TheVariants.{BrokenDefinition}
+use Rattle.tt_data.specs.declared.delimiter.Delimiter.{Delimiter}
 use Rattle.tt_data.specs.declared.leaf.Ident.{Ident}
 use Rattle.expander_model.specs.Calls.{Path, bare, from_crate, other, Marked, none, token, inside, call, marked, unmarked, key_of}
-use Rattle.expander_model.specs.Definitions.{Definition, nearest}
+use Rattle.expander_model.specs.Definitions.{Definition, nearest, or_else}
+use Rattle.expander_model.specs.Pieces.{cut}
 use Rattle.expander_model.specs.Expansion.{World, CallSite, just, followed_by, grouped, faulted, found, bursting, before_group, whole_call}
-use Rattle.expander_model.specs.declared.scope_rules.ScopeRules.{ScopeRules}
+use Rattle.expander_model.specs.PieceStates.{after_call, after_group, after_leaf}
+use Rattle.expander_model.specs.declared.begun.Begun.{Begun}
+use Rattle.expander_model.specs.declared.begun.Begun.TheVariants.{Nothing}
+use Rattle.expander_model.specs.declared.dialect.Dialect.{Dialect}
 use Rattle.textual_scope.specs.Limits.{Noted, definition, result, looked_in, unnoted, noted_world, noting, noted_list, noted}
 use Rattle.expander_model.specs.declared.scope_rules.Standing.TheVariants.{Argument}
-use Rattle.expander_model.specs.Scoping.{Around, Scoped, Search, parts, definition_in, in_group, behind, only, and_next, in_brackets, is_left_out, defined, fitted, at_level, unbroken, looked_up, at_key, at_call, search_trees, search_part, search_parts, search_list, scoped}
+use Rattle.expander_model.specs.Scoping.{Around, Scoped, Search, definition_in, in_group, behind, only, and_next, in_brackets, is_left_out, defined, fitted, at_level, unbroken, looked_up, at_key, at_call, search_leaf, found_at, is_expanded, is_alone_in, takes_end, search_trees, search_piece, search_pieces, search_list, scoped}
 use Rattle.textual_scope.proofs.ResultLemmas.{same_next}
 
 module _ {D : Type 0} where
@@ -57,7 +63,7 @@ module _ {D : Type 0} where
   told true outer place steps ds = refl
   told false outer place steps ds = refl
 
-module _ {D : Type 0} (rules : ScopeRules) (world : World D) (local : Definition → D) (scope : List ℕ → Option D) where
+module _ {D : Type 0} (dialect : Dialect) (world : World D) (local : Definition → D) (scope : List ℕ → Option D) where
   abbrev local' : Definition → Noted D
   local' d = definition (local d)
 
@@ -67,17 +73,17 @@ module _ {D : Type 0} (rules : ScopeRules) (world : World D) (local : Definition
   abbrev world' : World (Noted D)
   world' = noted_world world
 
-  unnoted-defined : (around : Around) (d : Definition) → unnoted (defined rules world' local' scope' around d) ≡ defined rules world local scope around d
+  unnoted-defined : (around : Around) (d : Definition) → unnoted (defined dialect world' local' scope' around d) ≡ defined dialect world local scope around d
   unnoted-defined around d =
       told (world.broken (local d)) around.outer (unwrap_or around.outer d.name.span) (if is_left_out around.standing then [] else walk d.piece) (d ∷ [])
 
   unnoted-fitted : (one : Search (Noted D)) (two : Search D) → SameNoted one two → (around : Around) (site : CallSite) (r : Option Forest)
-      → unnoted (fitted rules world' local' scope' one around site r) ≡ fitted rules world local scope two around site r
+      → unnoted (fitted dialect world' local' scope' one around site r) ≡ fitted dialect world local scope two around site r
   unnoted-fitted one two same around site None = refl
   unnoted-fitted one two same around site (Some g) = same (record around { outer = Some (unwrap_or around.outer site.at) }) g
 
   unnoted-level : (d : D) (one : Option (Search (Noted D))) (two : Option (Search D)) → SameDeeper one two → (around : Around) (site : CallSite)
-      → unnoted (at_level rules world' local' scope' (definition d) one around site) ≡ at_level rules world local scope d two around site
+      → unnoted (at_level dialect world' local' scope' (definition d) one around site) ≡ at_level dialect world local scope d two around site
   unnoted-level d None None same around site = refl
   unnoted-level d (Some one) (Some two) same around site =
       ap (λ (a : Scoped D). record a { outcome = bursting (world.bursts d site.argument) a.outcome }) (unnoted-fitted one two same around site (world.fit d site.argument))
@@ -85,74 +91,105 @@ module _ {D : Type 0} (rules : ScopeRules) (world : World D) (local : Definition
   unnoted-level d (Some one) None same around site = absurd same
 
   unnoted-unbroken : (d : D) (b : Bool) (one : Option (Search (Noted D))) (two : Option (Search D)) → SameDeeper one two → (around : Around) (site : CallSite)
-      → unnoted (unbroken rules world' local' scope' (definition d) b one around site) ≡ unbroken rules world local scope d b two around site
+      → unnoted (unbroken dialect world' local' scope' (definition d) b one around site) ≡ unbroken dialect world local scope d b two around site
   unnoted-unbroken d true one two same around site = refl
   unnoted-unbroken d false one two same around site = unnoted-level d one two same around site
 
   unnoted-looked_up : (r : Option D) (one : Option (Search (Noted D))) (two : Option (Search D)) → SameDeeper one two → (around : Around) (site : CallSite)
       → (kept : Scoped (Noted D)) (kept' : Scoped D) → unnoted kept ≡ kept'
-      → unnoted (looked_up rules world' local' scope' (option_map definition r) one around site kept) ≡ looked_up rules world local scope r two around site kept'
+      → unnoted (looked_up dialect world' local' scope' (option_map definition r) one around site kept) ≡ looked_up dialect world local scope r two around site kept'
   unnoted-looked_up None one two same around site kept kept' e = e
   unnoted-looked_up (Some d) one two same around site kept kept' e = unnoted-unbroken d (world.broken d) one two same around site
 
   unnoted-key : (r : Option Definition) (key : List ℕ) (one : Option (Search (Noted D))) (two : Option (Search D)) → SameDeeper one two → (around : Around) (site : CallSite)
       → (kept : Scoped (Noted D)) (kept' : Scoped D) → unnoted kept ≡ kept'
-      → unnoted (at_key rules world' local' scope' r key one around site kept) ≡ at_key rules world local scope r key two around site kept'
+      → unnoted (at_key dialect world' local' scope' r key one around site kept) ≡ at_key dialect world local scope r key two around site kept'
   unnoted-key (Some d) key one two same around site kept kept' e = unnoted-looked_up (Some (local d)) one two same around site kept kept' e
   unnoted-key None key one two same around site kept kept' e =
-      unnoted-found key (scope key) (looked_up rules world' local' scope' (scope' key) one around site kept) (looked_up rules world local scope (scope key) two around site kept')
+      unnoted-found key (scope key) (looked_up dialect world' local' scope' (scope' key) one around site kept) (looked_up dialect world local scope (scope key) two around site kept')
       (unnoted-looked_up (scope key) one two same around site kept kept' e)
 
   unnoted-call : (path : Path) (name : Ident) (one : Option (Search (Noted D))) (two : Option (Search D)) → SameDeeper one two → (around : Around) (site : CallSite)
       → (kept : Scoped (Noted D)) (kept' : Scoped D) → unnoted kept ≡ kept'
-      → unnoted (at_call rules world' local' scope' one around path name site kept) ≡ at_call rules world local scope two around path name site kept'
+      → unnoted (at_call dialect world' local' scope' one around path name site kept) ≡ at_call dialect world local scope two around path name site kept'
   unnoted-call bare name one two same around site kept kept' e = unnoted-key (nearest around.locals name.sym) name.sym one two same around site kept kept' e
   unnoted-call (from_crate root p q) name one two same around site kept kept' e = unnoted-key None (key_of (from_crate root p q) name) one two same around site kept kept' e
   unnoted-call (other p q) name one two same around site kept kept' e = e
 
+  -- what a call's name finds
+  unnoted-found_at : (around : Around) (path : Path) (name : Ident)
+      → found_at dialect world' local' scope' around path name ≡ option_map definition (found_at dialect world local scope around path name)
+  unnoted-found_at around bare name = go (nearest around.locals name.sym)
+    where
+      go : (r : Option Definition) → or_else (option_map local' r) (scope' name.sym) ≡ option_map definition (or_else (option_map local r) (scope name.sym))
+      go None = refl
+      go (Some d) = refl
+  unnoted-found_at around (from_crate root p q) name = refl
+  unnoted-found_at around (other p q) name = refl
+
+  unnoted-expanded : (one : Option (Search (Noted D))) (two : Option (Search D)) → SameDeeper one two → (r : Option D) (argument : Forest)
+      → is_expanded dialect world' local' scope' one (option_map definition r) argument ≡ is_expanded dialect world local scope two r argument
+  unnoted-expanded None None same r argument = refl
+  unnoted-expanded (Some one) (Some two) same None argument = refl
+  unnoted-expanded (Some one) (Some two) same (Some d) argument = refl
+  unnoted-expanded None (Some two) same r argument = absurd same
+  unnoted-expanded (Some one) None same r argument = absurd same
+
+  -- whether a `;` goes with the call
+  unnoted-end : (s : Begun) (around : Around) (path : Path) (name : Ident) (d : Delimiter) (argument : Forest) (one : Option (Search (Noted D))) (two : Option (Search D)) → SameDeeper one two
+      → takes_end dialect world' local' scope' one s around path name d argument ≡ takes_end dialect world local scope two s around path name d argument
+  unnoted-end s around path name d argument one two same =
+      let alone : Bool = is_alone_in dialect s around.standing d in
+      ap (λ (r : Option (Noted D)). alone && is_expanded dialect world' local' scope' one r argument) (unnoted-found_at around path name)
+      ∙ ap (λ (b : Bool). alone && b) (unnoted-expanded one two same (found_at dialect world local scope around path name) argument)
+
   module _ (one : Search (Noted D)) (two : Search D) (same : SameNoted one two) (deep : Option (Search (Noted D))) (deep' : Option (Search D)) (deeper : SameDeeper deep deep') where
-    unnoted-trees : (around : Around) (m : Marked) → unnoted (search_trees rules world' local' scope' one deep around m) ≡ search_trees rules world local scope two deep' around m
-    unnoted-trees around none = refl
-    unnoted-trees around (token l rest) =
-        unnoted-next (only (just around.outer (at_leaf l ∷ []))) (only (just around.outer (at_leaf l ∷ [])))
-        (λ here. search_trees rules world' local' scope' one deep here rest) (λ here. search_trees rules world local scope two deep' here rest)
-        around refl (λ here. unnoted-trees here rest)
-    unnoted-trees around (inside d a rest) =
-        let inner : Around = record around { standing = in_group d around.standing } in
+    unnoted-trees : (s : Begun) (around : Around) (m : Marked) → unnoted (search_trees dialect world' local' scope' one deep s around m) ≡ search_trees dialect world local scope two deep' s around m
+    unnoted-trees s around none = refl
+    unnoted-trees s around (token l rest) =
+        unnoted-next (search_leaf dialect world' local' scope' s around l) (search_leaf dialect world local scope s around l)
+        (λ here. search_trees dialect world' local' scope' one deep (after_leaf s l) here rest) (λ here. search_trees dialect world local scope two deep' (after_leaf s l) here rest)
+        around refl (λ here. unnoted-trees (after_leaf s l) here rest)
+    unnoted-trees s around (inside d a rest) =
+        let inner : Around = record around { standing = in_group s d.kind around.standing } in
         unnoted-next (in_brackets around.outer d (one inner (unmarked a))) (in_brackets around.outer d (two inner (unmarked a)))
-        (λ here. search_trees rules world' local' scope' one deep here rest) (λ here. search_trees rules world local scope two deep' here rest)
-        around (ap (in_brackets around.outer d) (same inner (unmarked a))) (λ here. unnoted-trees here rest)
-    unnoted-trees around (call path name bang d a rest) =
+        (λ here. search_trees dialect world' local' scope' one deep (after_group s d.kind) here rest) (λ here. search_trees dialect world local scope two deep' (after_group s d.kind) here rest)
+        around (ap (in_brackets around.outer d) (same inner (unmarked a))) (λ here. unnoted-trees (after_group s d.kind) here rest)
+    unnoted-trees s around (call path name bang d a rest) =
         let site : CallSite = record { at = name.span; whole = whole_call path name bang d (unmarked a); argument = unmarked a } in
         let inner : Around = record around { standing = Argument } in
         let kept : Scoped (Noted D) = only (followed_by (just around.outer (walk (before_group path name bang))) (grouped around.outer d (one inner (unmarked a)).outcome)) in
         let kept' : Scoped D = only (followed_by (just around.outer (walk (before_group path name bang))) (grouped around.outer d (two inner (unmarked a)).outcome)) in
-        unnoted-next (at_call rules world' local' scope' deep around path name site kept) (at_call rules world local scope deep' around path name site kept')
-        (λ here. search_trees rules world' local' scope' one deep here rest) (λ here. search_trees rules world local scope two deep' here rest)
+        let gone : Bool = takes_end dialect world local scope deep' s around path name d (unmarked a) in
+        let next : Bool → Around → Scoped (Noted D) = λ t here. search_trees dialect world' local' scope' one deep (after_call t s d.kind) here rest in
+        ap (λ (t : Bool). unnoted (and_next (at_call dialect world' local' scope' deep around path name site kept) (next t) around))
+        (unnoted-end s around path name d (unmarked a) deep deep' deeper)
+        ∙ unnoted-next (at_call dialect world' local' scope' deep around path name site kept) (at_call dialect world local scope deep' around path name site kept')
+        (next gone) (λ here. search_trees dialect world local scope two deep' (after_call gone s d.kind) here rest)
         around
         (unnoted-call path name deep deep' deeper around site kept kept'
         (ap (λ (x : Scoped D). only (followed_by (just around.outer (walk (before_group path name bang))) (grouped around.outer d x.outcome))) (same inner (unmarked a))))
-        (λ here. unnoted-trees here rest)
+        (λ here. unnoted-trees (after_call gone s d.kind) here rest)
 
     unnoted-part : (around : Around) (p : Forest) (d : Option Definition)
-        → unnoted (search_part rules world' local' scope' one deep around p d) ≡ search_part rules world local scope two deep' around p d
+        → unnoted (search_piece dialect world' local' scope' one deep around p d) ≡ search_piece dialect world local scope two deep' around p d
     unnoted-part around p (Some d) = unnoted-defined around d
-    unnoted-part around p None = unnoted-trees around (marked p)
+    unnoted-part around p None = unnoted-trees Nothing around (marked p)
 
-    unnoted-parts : (around : Around) (ps : List Forest) → unnoted (search_parts rules world' local' scope' one deep around ps) ≡ search_parts rules world local scope two deep' around ps
+    unnoted-parts : (around : Around) (ps : List Forest) → unnoted (search_pieces dialect world' local' scope' one deep around ps) ≡ search_pieces dialect world local scope two deep' around ps
     unnoted-parts around [] = refl
     unnoted-parts around (p ∷ ps) =
-        unnoted-next (search_part rules world' local' scope' one deep around p (definition_in rules p)) (search_part rules world local scope two deep' around p (definition_in rules p))
-        (λ here. search_parts rules world' local' scope' one deep here ps) (λ here. search_parts rules world local scope two deep' here ps)
-        around (unnoted-part around p (definition_in rules p)) (λ here. unnoted-parts here ps)
+        unnoted-next (search_piece dialect world' local' scope' one deep around p (definition_in dialect.scope p)) (search_piece dialect world local scope two deep' around p (definition_in dialect.scope p))
+        (λ here. search_pieces dialect world' local' scope' one deep here ps) (λ here. search_pieces dialect world local scope two deep' here ps)
+        around (unnoted-part around p (definition_in dialect.scope p)) (λ here. unnoted-parts here ps)
 
   unnoted-list : (deep : Option (Search (Noted D))) (deep' : Option (Search D)) → SameDeeper deep deep' → (n : ℕ)
-      → SameNoted (noted_list rules world local scope deep n) (search_list rules world local scope deep' n)
+      → SameNoted (noted_list dialect world local scope deep n) (search_list dialect world local scope deep' n)
   unnoted-list deep deep' deeper zero around f = refl
   unnoted-list deep deep' deeper (suc n) around f =
-      unnoted-parts (noted_list rules world local scope deep n) (search_list rules world local scope deep' n) (unnoted-list deep deep' deeper n) deep deep' deeper around (parts rules f)
+      unnoted-parts (noted_list dialect world local scope deep n) (search_list dialect world local scope deep' n) (unnoted-list deep deep' deeper n) deep deep' deeper around (cut f)
 
-  pub unnoted-noted : (n : ℕ) → SameNoted (noted rules world local scope n) (scoped rules world local scope n)
+  pub unnoted-noted : (n : ℕ) → SameNoted (noted dialect world local scope n) (scoped dialect world local scope n)
   unnoted-noted zero around f = unnoted-list None None tt (suc (size f)) around f
   unnoted-noted (suc n) around f =
-      unnoted-list (Some (noting (noted rules world local scope n))) (Some (scoped rules world local scope n)) (λ here g. unnoted-noted n here g) (suc (size f)) around f
+      unnoted-list (Some (noting (noted dialect world local scope n))) (Some (scoped dialect world local scope n)) (λ here g. unnoted-noted n here g) (suc (size f)) around f

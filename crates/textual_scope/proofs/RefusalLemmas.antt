@@ -1,19 +1,24 @@
 -- What a limit refuses depends on what was looked up until then alone.
 use Rattle.std.proofs.Common.{◌≡◌, ℕ, zero, suc, ◌-◌, Bool, true, false, List, [], ◌∷◌, ◌++◌, Option, Some, None, refl, sym, ap, subst, ◌∙◌, unwrap_or, option_map, if◌then◌else◌}
-use Rattle.std.specs.Prelude.{All, ◌||◌, nat_eq, nat_lt}
+use Rattle.std.specs.Prelude.{All, ◌&&◌, ◌||◌, nat_eq, nat_lt}
 use Rattle.std.proofs.lemmas.List.Elements.{All-head, All-tail}
 use Rattle.tt_data.specs.Forest.{Forest, size}
-use Rattle.tt_data.specs.Walk.{Step, at_leaf, walk}
+use Rattle.tt_data.specs.Walk.{Step, walk}
 use Rattle.tt_data.specs.declared.span.Span.{Span}
 use Rattle.expander_model.specs.declared.fault.FaultKind.TheVariants.{BrokenDefinition}
+use Rattle.tt_data.specs.declared.delimiter.Delimiter.{Delimiter}
 use Rattle.tt_data.specs.declared.leaf.Ident.{Ident}
 use Rattle.expander_model.specs.Calls.{Path, bare, from_crate, other, Marked, none, token, inside, call, marked, unmarked, key_of}
-use Rattle.expander_model.specs.Definitions.{Definition, nearest}
+use Rattle.expander_model.specs.Definitions.{Definition, nearest, or_else}
+use Rattle.expander_model.specs.Pieces.{cut}
 use Rattle.expander_model.specs.Expansion.{World, CallSite, just, followed_by, grouped, faulted, found, bursting, before_group, whole_call}
-use Rattle.expander_model.specs.declared.scope_rules.ScopeRules.{ScopeRules}
+use Rattle.expander_model.specs.PieceStates.{after_call, after_group, after_leaf}
+use Rattle.expander_model.specs.declared.begun.Begun.{Begun}
+use Rattle.expander_model.specs.declared.begun.Begun.TheVariants.{Nothing}
+use Rattle.expander_model.specs.declared.dialect.Dialect.{Dialect}
 use Rattle.textual_scope.specs.Limits.{Limits, Noted, definition, result, noted_world, noting, noted_list, noted, until_passed, too_large}
 use Rattle.expander_model.specs.declared.scope_rules.Standing.TheVariants.{Argument}
-use Rattle.expander_model.specs.Scoping.{Around, Scoped, Search, parts, definition_in, in_group, behind, only, and_next, in_brackets, is_left_out, fitted, at_level, unbroken, looked_up, at_key, at_call, search_trees, search_part, search_parts}
+use Rattle.expander_model.specs.Scoping.{Around, Scoped, Search, definition_in, in_group, behind, only, and_next, in_brackets, is_left_out, fitted, at_level, unbroken, looked_up, at_key, at_call, search_leaf, found_at, is_expanded, is_alone_in, takes_end, search_trees, search_piece, search_pieces}
 use Rattle.textual_scope.proofs.ResultLemmas.{same_next}
 
 -- ---- notes, as far as they agree
@@ -63,15 +68,16 @@ module _ {D : Type 0} (others : List ℕ → Option D) where
     same = λ k. ap of (h.same (subst AllAgree (finds a) k));
   }
 
-  both_next : (a b : Scoped (Noted D)) (f g : Around → Scoped (Noted D)) (around : Around) → Both a b → ((here : Around) → Both (f here) (g here))
+  both_next : (a b : Scoped (Noted D)) (f g : Around → Scoped (Noted D)) (around : Around) → Both a b → (AllAgree a.outcome.finds → (here : Around) → Both (f here) (g here))
       → Both (and_next a f around) (and_next b g around)
   both_next a b f g around h more =
       let after : Scoped (Noted D) = f (behind a.defines around) in
       record {
         follow = follow_append a.outcome.finds b.outcome.finds after.outcome.finds (g (behind b.defines around)).outcome.finds h.follow
-            (λ all. subst (λ (x : Scoped (Noted D)). Follow after.outcome.finds (g (behind x.defines around)).outcome.finds) (sym (h.same all)) (more (behind a.defines around)).follow);
-        same = λ k. same_next a b f g around (h.same (agree_front a.outcome.finds after.outcome.finds k))
-            ((more (behind a.defines around)).same (agree_back a.outcome.finds after.outcome.finds k));
+            (λ all. subst (λ (x : Scoped (Noted D)). Follow after.outcome.finds (g (behind x.defines around)).outcome.finds) (sym (h.same all)) (more all (behind a.defines around)).follow);
+        same = λ k.
+            let all : AllAgree a.outcome.finds = agree_front a.outcome.finds after.outcome.finds k in
+            same_next a b f g around (h.same all) ((more all (behind a.defines around)).same (agree_back a.outcome.finds after.outcome.finds k));
       }
 
   abbrev Finds : Type 0
@@ -116,7 +122,7 @@ module _ {D : Type 0} (others : List ℕ → Option D) where
 
 -- ---- two scopes
 
-module _ {D : Type 0} (rules : ScopeRules) (world : World D) (local : Definition → D) (scope others : List ℕ → Option D) where
+module _ {D : Type 0} (dialect : Dialect) (world : World D) (local : Definition → D) (scope others : List ℕ → Option D) where
   abbrev local' : Definition → Noted D
   local' d = definition (local d)
 
@@ -141,26 +147,26 @@ module _ {D : Type 0} (rules : ScopeRules) (world : World D) (local : Definition
   told false outer place steps ds = record { follow = refl; same = λ k. refl }
 
   both_fitted : (one two : Search (Noted D)) → BothIn one two → (around : Around) (site : CallSite) (r : Option Forest)
-      → Both others (fitted rules (noted_world world) local' one_scope one around site r) (fitted rules (noted_world world) local' two_scope two around site r)
+      → Both others (fitted dialect (noted_world world) local' one_scope one around site r) (fitted dialect (noted_world world) local' two_scope two around site r)
   both_fitted one two same around site None = record { follow = refl; same = λ k. refl }
   both_fitted one two same around site (Some g) = same (record around { outer = Some (unwrap_or around.outer site.at) }) g
 
   both_level : (d : D) (one two : Option (Search (Noted D))) → BothDeeper one two → (around : Around) (site : CallSite)
-      → Both others (at_level rules (noted_world world) local' one_scope (definition d) one around site) (at_level rules (noted_world world) local' two_scope (definition d) two around site)
+      → Both others (at_level dialect (noted_world world) local' one_scope (definition d) one around site) (at_level dialect (noted_world world) local' two_scope (definition d) two around site)
   both_level d None None same around site = record { follow = refl; same = λ k. refl }
   both_level d (Some one) (Some two) same around site =
-      both_with others (fitted rules (noted_world world) local' one_scope one around site (world.fit d site.argument)) (fitted rules (noted_world world) local' two_scope two around site (world.fit d site.argument))
+      both_with others (fitted dialect (noted_world world) local' one_scope one around site (world.fit d site.argument)) (fitted dialect (noted_world world) local' two_scope two around site (world.fit d site.argument))
       (λ a. record a { outcome = bursting (world.bursts d site.argument) a.outcome }) (λ x. refl) (both_fitted one two same around site (world.fit d site.argument))
   both_level d None (Some two) same around site = absurd same
   both_level d (Some one) None same around site = absurd same
 
   both_unbroken : (d : D) (b : Bool) (one two : Option (Search (Noted D))) → BothDeeper one two → (around : Around) (site : CallSite)
-      → Both others (unbroken rules (noted_world world) local' one_scope (definition d) b one around site) (unbroken rules (noted_world world) local' two_scope (definition d) b two around site)
+      → Both others (unbroken dialect (noted_world world) local' one_scope (definition d) b one around site) (unbroken dialect (noted_world world) local' two_scope (definition d) b two around site)
   both_unbroken d true one two same around site = record { follow = refl; same = λ k. refl }
   both_unbroken d false one two same around site = both_level d one two same around site
 
   both_looked_up : (r : Option D) (one two : Option (Search (Noted D))) → BothDeeper one two → (around : Around) (site : CallSite) (kept kept' : Scoped (Noted D)) → Both others kept kept'
-      → Both others (looked_up rules (noted_world world) local' one_scope (option_map definition r) one around site kept) (looked_up rules (noted_world world) local' two_scope (option_map definition r) two around site kept')
+      → Both others (looked_up dialect (noted_world world) local' one_scope (option_map definition r) one around site kept) (looked_up dialect (noted_world world) local' two_scope (option_map definition r) two around site kept')
   both_looked_up None one two same around site kept kept' h = h
   both_looked_up (Some d) one two same around site kept kept' h = both_unbroken d (world.broken d) one two same around site
 
@@ -168,89 +174,130 @@ module _ {D : Type 0} (rules : ScopeRules) (world : World D) (local : Definition
   both_found : (key : List ℕ) (r s : Option D) (one two : Option (Search (Noted D))) → BothDeeper one two → (around : Around) (site : CallSite) (kept kept' : Scoped (Noted D)) → Both others kept kept'
       → others key ≡ s
       → Both others
-      (let a : Scoped (Noted D) = looked_up rules (noted_world world) local' one_scope (option_map definition r) one around site kept in record a { outcome = found key (option_map definition r) a.outcome })
-      (let a : Scoped (Noted D) = looked_up rules (noted_world world) local' two_scope (option_map definition s) two around site kept' in record a { outcome = found key (option_map definition s) a.outcome })
+      (let a : Scoped (Noted D) = looked_up dialect (noted_world world) local' one_scope (option_map definition r) one around site kept in record a { outcome = found key (option_map definition r) a.outcome })
+      (let a : Scoped (Noted D) = looked_up dialect (noted_world world) local' two_scope (option_map definition s) two around site kept' in record a { outcome = found key (option_map definition s) a.outcome })
   both_found key r s one two same around site kept kept' h is = go r (both_looked_up r one two same around site kept kept' h)
     where
       go : (r : Option D)
-          → Both others (looked_up rules (noted_world world) local' one_scope (option_map definition r) one around site kept) (looked_up rules (noted_world world) local' two_scope (option_map definition r) two around site kept')
+          → Both others (looked_up dialect (noted_world world) local' one_scope (option_map definition r) one around site kept) (looked_up dialect (noted_world world) local' two_scope (option_map definition r) two around site kept')
           → Both others
-          (let a : Scoped (Noted D) = looked_up rules (noted_world world) local' one_scope (option_map definition r) one around site kept in record a { outcome = found key (option_map definition r) a.outcome })
-          (let a : Scoped (Noted D) = looked_up rules (noted_world world) local' two_scope (option_map definition s) two around site kept' in record a { outcome = found key (option_map definition s) a.outcome })
+          (let a : Scoped (Noted D) = looked_up dialect (noted_world world) local' one_scope (option_map definition r) one around site kept in record a { outcome = found key (option_map definition r) a.outcome })
+          (let a : Scoped (Noted D) = looked_up dialect (noted_world world) local' two_scope (option_map definition s) two around site kept' in record a { outcome = found key (option_map definition s) a.outcome })
       go None both =
           let of : Option D → Scoped (Noted D) = λ t.
-          let a : Scoped (Noted D) = looked_up rules (noted_world world) local' two_scope (option_map definition t) two around site kept' in
+          let a : Scoped (Noted D) = looked_up dialect (noted_world world) local' two_scope (option_map definition t) two around site kept' in
           record a { outcome = found key (option_map definition t) a.outcome } in
           record {
             follow = λ agrees.
                 let t : None ≡ s = sym agrees ∙ is in
-                ((looked_up rules (noted_world world) local' two_scope None two around site kept').outcome.finds, (ap (λ x. (of x).outcome.finds) (sym t), both.follow));
+                ((looked_up dialect (noted_world world) local' two_scope None two around site kept').outcome.finds, (ap (λ x. (of x).outcome.finds) (sym t), both.follow));
             same = λ k. ap of (sym (sym k.0 ∙ is)) ∙ ap (λ (a : Scoped (Noted D)). record a { outcome = found key None a.outcome }) (both.same k.1);
           }
       go (Some d) both =
           let of : Option D → Scoped (Noted D) = λ t.
-          let a : Scoped (Noted D) = looked_up rules (noted_world world) local' two_scope (option_map definition t) two around site kept' in
+          let a : Scoped (Noted D) = looked_up dialect (noted_world world) local' two_scope (option_map definition t) two around site kept' in
           record a { outcome = found key (option_map definition t) a.outcome } in
           record {
             follow = λ agrees.
                 let t : Some d ≡ s = sym agrees ∙ is in
-                ((looked_up rules (noted_world world) local' two_scope (Some (definition d)) two around site kept').outcome.finds, (ap (λ x. (of x).outcome.finds) (sym t), both.follow));
+                ((looked_up dialect (noted_world world) local' two_scope (Some (definition d)) two around site kept').outcome.finds, (ap (λ x. (of x).outcome.finds) (sym t), both.follow));
             same = λ k. ap of (sym (sym k.0 ∙ is)) ∙ ap (λ (a : Scoped (Noted D)). record a { outcome = found key (Some (definition d)) a.outcome }) (both.same k.1);
           }
 
   both_key : (r : Option Definition) (key : List ℕ) (one two : Option (Search (Noted D))) → BothDeeper one two → (around : Around) (site : CallSite) (kept kept' : Scoped (Noted D)) → Both others kept kept'
-      → Both others (at_key rules (noted_world world) local' one_scope r key one around site kept) (at_key rules (noted_world world) local' two_scope r key two around site kept')
+      → Both others (at_key dialect (noted_world world) local' one_scope r key one around site kept) (at_key dialect (noted_world world) local' two_scope r key two around site kept')
   both_key (Some d) key one two same around site kept kept' h = both_looked_up (Some (local d)) one two same around site kept kept' h
   both_key None key one two same around site kept kept' h = both_found key (scope key) (others key) one two same around site kept kept' h refl
 
   both_call : (path : Path) (name : Ident) (one two : Option (Search (Noted D))) → BothDeeper one two → (around : Around) (site : CallSite) (kept kept' : Scoped (Noted D)) → Both others kept kept'
-      → Both others (at_call rules (noted_world world) local' one_scope one around path name site kept) (at_call rules (noted_world world) local' two_scope two around path name site kept')
+      → Both others (at_call dialect (noted_world world) local' one_scope one around path name site kept) (at_call dialect (noted_world world) local' two_scope two around path name site kept')
   both_call bare name one two same around site kept kept' h = both_key (nearest around.locals name.sym) name.sym one two same around site kept kept' h
   both_call (from_crate root p q) name one two same around site kept kept' h = both_key None (key_of (from_crate root p q) name) one two same around site kept kept' h
   both_call (other p q) name one two same around site kept kept' h = h
 
+  agrees_same : (key : List ℕ) (r : Option D) → Agrees others (key, option_map definition r) → others key ≡ r
+  agrees_same key None h = h
+  agrees_same key (Some d) h = h
+
+  -- what a call's name finds, where the look-up of the call agrees
+  both_found_at : (path : Path) (name : Ident) (deeper : Option (Search (Noted D))) (around : Around) (site : CallSite) (kept : Scoped (Noted D))
+      → AllAgree others (at_call dialect (noted_world world) local' one_scope deeper around path name site kept).outcome.finds
+      → found_at dialect (noted_world world) local' two_scope around path name ≡ found_at dialect (noted_world world) local' one_scope around path name
+  both_found_at bare name deeper around site kept h = go (nearest around.locals name.sym) h
+    where
+      go : (r : Option Definition) → AllAgree others (at_key dialect (noted_world world) local' one_scope r name.sym deeper around site kept).outcome.finds
+          → or_else (option_map local' r) (two_scope name.sym) ≡ or_else (option_map local' r) (one_scope name.sym)
+      go (Some d) h = refl
+      go None h = ap (option_map definition) (agrees_same name.sym (scope name.sym) h.0)
+  both_found_at (from_crate root p q) name deeper around site kept h =
+      let key : List ℕ = key_of (from_crate root p q) name in
+      ap (option_map definition) (agrees_same key (scope key) h.0)
+  both_found_at (other p q) name deeper around site kept h = refl
+
+  both_expanded : (one two : Option (Search (Noted D))) → BothDeeper one two → (r : Option (Noted D)) (argument : Forest)
+      → is_expanded dialect (noted_world world) local' two_scope two r argument ≡ is_expanded dialect (noted_world world) local' one_scope one r argument
+  both_expanded None None same r argument = refl
+  both_expanded (Some one) (Some two) same None argument = refl
+  both_expanded (Some one) (Some two) same (Some d) argument = refl
+  both_expanded None (Some two) same r argument = absurd same
+  both_expanded (Some one) None same r argument = absurd same
+
+  -- whether a `;` goes with the call
+  both_end : (s : Begun) (path : Path) (name : Ident) (d : Delimiter) (argument : Forest) (one two : Option (Search (Noted D))) → BothDeeper one two → (around : Around) (site : CallSite) (kept : Scoped (Noted D))
+      → AllAgree others (at_call dialect (noted_world world) local' one_scope one around path name site kept).outcome.finds
+      → takes_end dialect (noted_world world) local' two_scope two s around path name d argument ≡ takes_end dialect (noted_world world) local' one_scope one s around path name d argument
+  both_end s path name d argument one two same around site kept h =
+      let alone : Bool = is_alone_in dialect s around.standing d in
+      ap (λ (r : Option (Noted D)). alone && is_expanded dialect (noted_world world) local' two_scope two r argument) (both_found_at path name one around site kept h)
+      ∙ ap (λ (b : Bool). alone && b) (both_expanded one two same (found_at dialect (noted_world world) local' one_scope around path name) argument)
+
   module _ (one two : Search (Noted D)) (same : BothIn one two) (deep deep' : Option (Search (Noted D))) (deeper : BothDeeper deep deep') where
-    both_trees : (around : Around) (m : Marked)
-        → Both others (search_trees rules (noted_world world) local' one_scope one deep around m) (search_trees rules (noted_world world) local' two_scope two deep' around m)
-    both_trees around none = record { follow = refl; same = λ k. refl }
-    both_trees around (token l rest) =
-        let a : Scoped (Noted D) = only (just around.outer (at_leaf l ∷ [])) in
-        both_next others a a (λ here. search_trees rules (noted_world world) local' one_scope one deep here rest) (λ here. search_trees rules (noted_world world) local' two_scope two deep' here rest)
-        around (record { follow = refl; same = λ k. refl }) (λ here. both_trees here rest)
-    both_trees around (inside d a rest) =
-        let inner : Around = record around { standing = in_group d around.standing } in
+    both_trees : (s : Begun) (around : Around) (m : Marked)
+        → Both others (search_trees dialect (noted_world world) local' one_scope one deep s around m) (search_trees dialect (noted_world world) local' two_scope two deep' s around m)
+    both_trees s around none = record { follow = refl; same = λ k. refl }
+    both_trees s around (token l rest) =
+        let a : Scoped (Noted D) = search_leaf dialect (noted_world world) local' one_scope s around l in
+        both_next others a a (λ here. search_trees dialect (noted_world world) local' one_scope one deep (after_leaf s l) here rest) (λ here. search_trees dialect (noted_world world) local' two_scope two deep' (after_leaf s l) here rest)
+        around (record { follow = refl; same = λ k. refl }) (λ all here. both_trees (after_leaf s l) here rest)
+    both_trees s around (inside d a rest) =
+        let inner : Around = record around { standing = in_group s d.kind around.standing } in
         both_next others (in_brackets around.outer d (one inner (unmarked a))) (in_brackets around.outer d (two inner (unmarked a)))
-        (λ here. search_trees rules (noted_world world) local' one_scope one deep here rest) (λ here. search_trees rules (noted_world world) local' two_scope two deep' here rest)
-        around (both_with others (one inner (unmarked a)) (two inner (unmarked a)) (in_brackets around.outer d) (λ x. refl) (same inner (unmarked a))) (λ here. both_trees here rest)
-    both_trees around (call path name bang d a rest) =
+        (λ here. search_trees dialect (noted_world world) local' one_scope one deep (after_group s d.kind) here rest) (λ here. search_trees dialect (noted_world world) local' two_scope two deep' (after_group s d.kind) here rest)
+        around (both_with others (one inner (unmarked a)) (two inner (unmarked a)) (in_brackets around.outer d) (λ x. refl) (same inner (unmarked a))) (λ all here. both_trees (after_group s d.kind) here rest)
+    both_trees s around (call path name bang d a rest) =
         let site : CallSite = record { at = name.span; whole = whole_call path name bang d (unmarked a); argument = unmarked a } in
         let inner : Around = record around { standing = Argument } in
         let of : Scoped (Noted D) → Scoped (Noted D) = λ x. only (followed_by (just around.outer (walk (before_group path name bang))) (grouped around.outer d x.outcome)) in
-        both_next others (at_call rules (noted_world world) local' one_scope deep around path name site (of (one inner (unmarked a)))) (at_call rules (noted_world world) local' two_scope deep' around path name site (of (two inner (unmarked a))))
-        (λ here. search_trees rules (noted_world world) local' one_scope one deep here rest) (λ here. search_trees rules (noted_world world) local' two_scope two deep' here rest)
+        let gone : Bool = takes_end dialect (noted_world world) local' one_scope deep s around path name d (unmarked a) in
+        let gone' : Bool = takes_end dialect (noted_world world) local' two_scope deep' s around path name d (unmarked a) in
+        let after : Bool → Around → Scoped (Noted D) = λ t here. search_trees dialect (noted_world world) local' two_scope two deep' (after_call t s d.kind) here rest in
+        both_next others (at_call dialect (noted_world world) local' one_scope deep around path name site (of (one inner (unmarked a)))) (at_call dialect (noted_world world) local' two_scope deep' around path name site (of (two inner (unmarked a))))
+        (λ here. search_trees dialect (noted_world world) local' one_scope one deep (after_call gone s d.kind) here rest) (after gone')
         around
         (both_call path name deep deep' deeper around site (of (one inner (unmarked a))) (of (two inner (unmarked a)))
         (both_with others (one inner (unmarked a)) (two inner (unmarked a)) of (λ x. refl) (same inner (unmarked a))))
-        (λ here. both_trees here rest)
+        (λ all here. subst (λ (t : Bool). Both others (search_trees dialect (noted_world world) local' one_scope one deep (after_call gone s d.kind) here rest) (after t here))
+        (sym (both_end s path name d (unmarked a) deep deep' deeper around site (of (one inner (unmarked a))) all))
+        (both_trees (after_call gone s d.kind) here rest))
 
     both_part : (around : Around) (p : Forest) (d : Option Definition)
-        → Both others (search_part rules (noted_world world) local' one_scope one deep around p d) (search_part rules (noted_world world) local' two_scope two deep' around p d)
+        → Both others (search_piece dialect (noted_world world) local' one_scope one deep around p d) (search_piece dialect (noted_world world) local' two_scope two deep' around p d)
     both_part around p (Some d) = told (world.broken (local d)) around.outer (unwrap_or around.outer d.name.span) (if is_left_out around.standing then [] else walk d.piece) (d ∷ [])
-    both_part around p None = both_trees around (marked p)
+    both_part around p None = both_trees Nothing around (marked p)
 
     both_parts : (around : Around) (ps : List Forest)
-        → Both others (search_parts rules (noted_world world) local' one_scope one deep around ps) (search_parts rules (noted_world world) local' two_scope two deep' around ps)
+        → Both others (search_pieces dialect (noted_world world) local' one_scope one deep around ps) (search_pieces dialect (noted_world world) local' two_scope two deep' around ps)
     both_parts around [] = record { follow = refl; same = λ k. refl }
     both_parts around (p ∷ ps) =
-        both_next others (search_part rules (noted_world world) local' one_scope one deep around p (definition_in rules p)) (search_part rules (noted_world world) local' two_scope two deep' around p (definition_in rules p))
-        (λ here. search_parts rules (noted_world world) local' one_scope one deep here ps) (λ here. search_parts rules (noted_world world) local' two_scope two deep' here ps)
-        around (both_part around p (definition_in rules p)) (λ here. both_parts here ps)
+        both_next others (search_piece dialect (noted_world world) local' one_scope one deep around p (definition_in dialect.scope p)) (search_piece dialect (noted_world world) local' two_scope two deep' around p (definition_in dialect.scope p))
+        (λ here. search_pieces dialect (noted_world world) local' one_scope one deep here ps) (λ here. search_pieces dialect (noted_world world) local' two_scope two deep' here ps)
+        around (both_part around p (definition_in dialect.scope p)) (λ all here. both_parts here ps)
 
   both_list : (deep deep' : Option (Search (Noted D))) → BothDeeper deep deep' → (n : ℕ)
-      → BothIn (noted_list rules world local scope deep n) (noted_list rules world local others deep' n)
+      → BothIn (noted_list dialect world local scope deep n) (noted_list dialect world local others deep' n)
   both_list deep deep' deeper zero around f = record { follow = refl; same = λ k. refl }
   both_list deep deep' deeper (suc n) around f =
-      both_parts (noted_list rules world local scope deep n) (noted_list rules world local others deep' n) (both_list deep deep' deeper n) deep deep' deeper around (parts rules f)
+      both_parts (noted_list dialect world local scope deep n) (noted_list dialect world local others deep' n) (both_list deep deep' deeper n) deep deep' deeper around (cut f)
 
   both_noting : (one two : Search (Noted D)) → BothIn one two → BothIn (noting one) (noting two)
   both_noting one two same around f =
@@ -260,16 +307,16 @@ module _ {D : Type 0} (rules : ScopeRules) (world : World D) (local : Definition
         same = λ k. ap (λ (a : Scoped (Noted D)). record a { outcome = found [] (Some (result (size f))) a.outcome }) (h.same k.1);
       }
 
-  both_noted : (n : ℕ) → BothIn (noted rules world local scope n) (noted rules world local others n)
+  both_noted : (n : ℕ) → BothIn (noted dialect world local scope n) (noted dialect world local others n)
   both_noted zero around f = both_list None None tt (suc (size f)) around f
   both_noted (suc n) around f =
-      both_list (Some (noting (noted rules world local scope n))) (Some (noting (noted rules world local others n)))
-      (both_noting (noted rules world local scope n) (noted rules world local others n) (λ here g. both_noted n here g)) (suc (size f)) around f
+      both_list (Some (noting (noted dialect world local scope n))) (Some (noting (noted dialect world local others n)))
+      (both_noting (noted dialect world local scope n) (noted dialect world local others n) (λ here g. both_noted n here g)) (suc (size f)) around f
 
   -- the law
-  pub refused_too : (limits : Limits) (n : ℕ) (around : Around) (f : Forest) (finds : List (List ℕ × Option D)) → too_large rules world local scope limits n around f ≡ Some finds
-      → All (λ find. others find.0 ≡ find.1) finds → too_large rules world local others limits n around f ≡ Some finds
+  pub refused_too : (limits : Limits) (n : ℕ) (around : Around) (f : Forest) (finds : List (List ℕ × Option D)) → too_large dialect world local scope limits n around f ≡ Some finds
+      → All (λ find. others find.0 ≡ find.1) finds → too_large dialect world local others limits n around f ≡ Some finds
   refused_too limits n around f finds e all =
-      passed_too others (noting (noted rules world local scope n) around f).outcome.finds (noting (noted rules world local others n) around f).outcome.finds
+      passed_too others (noting (noted dialect world local scope n) around f).outcome.finds (noting (noted dialect world local others n) around f).outcome.finds
       limits.calls limits.tokens finds
-      (both_noting (noted rules world local scope n) (noted rules world local others n) (both_noted n) around f).follow e all
+      (both_noting (noted dialect world local scope n) (noted dialect world local others n) (both_noted n) around f).follow e all

@@ -4,8 +4,8 @@ use Rattle.std.specs.Prelude.{ℕ, Option, ◌||◌}
 use Rattle.tt_data.specs.Forest.{Forest}
 use Rattle.expander_model.specs.Definitions.{Definition}
 use Rattle.expander_model.specs.Expansion.{World, Outcome, just, followed_by}
-use Rattle.expander_model.specs.declared.scope_rules.ScopeRules.{ScopeRules}
-use Rattle.expander_model.specs.Scoping.{Around, Scoped, Search, definition_in, only, and_next, behind, search_part, search_parts}
+use Rattle.expander_model.specs.declared.dialect.Dialect.{Dialect}
+use Rattle.expander_model.specs.Scoping.{Around, Scoped, Search, definition_in, only, and_next, behind, search_piece, search_pieces}
 
 or_assoc : (a b c : Bool) → ((a || b) || c) ≡ (a || (b || c))
 or_assoc true b c = refl
@@ -67,15 +67,15 @@ module _ {D : Type 0} where
       ap (λ (x : Scoped D). and_next x g around) here
       ∙ ap (λ (x : Scoped D). record { outcome = followed_by a.outcome x.outcome; defines = x.defines ++ a.defines }) there
 
-module _ {D : Type 0} (rules : ScopeRules) (world : World D) (local : Definition → D) (scope : List ℕ → Option D) (search : Search D) (deeper : Option (Search D)) where
+module _ {D : Type 0} (dialect : Dialect) (world : World D) (local : Definition → D) (scope : List ℕ → Option D) (search : Search D) (deeper : Option (Search D)) where
   -- the parts of two lists, one list after the other
-  pub parts-append : (around : Around) (front back : List Forest) → search_parts rules world local scope search deeper around (front ++ back)
-      ≡ and_next (search_parts rules world local scope search deeper around front) (λ here. search_parts rules world local scope search deeper here back) around
-  parts-append around [] back = sym (nothing_and around.outer (λ here. search_parts rules world local scope search deeper here back) around)
+  pub parts-append : (around : Around) (front back : List Forest) → search_pieces dialect world local scope search deeper around (front ++ back)
+      ≡ and_next (search_pieces dialect world local scope search deeper around front) (λ here. search_pieces dialect world local scope search deeper here back) around
+  parts-append around [] back = sym (nothing_and around.outer (λ here. search_pieces dialect world local scope search deeper here back) around)
   parts-append around (p ∷ front) back =
-      let a : Scoped D = search_part rules world local scope search deeper around p (definition_in rules p) in
-      let f : Around → Scoped D = λ here. search_parts rules world local scope search deeper here front in
-      let g : Around → Scoped D = λ here. search_parts rules world local scope search deeper here back in
-      same_next a a (λ here. and_next (f here) g here) (λ here. search_parts rules world local scope search deeper here (front ++ back)) around
+      let a : Scoped D = search_piece dialect world local scope search deeper around p (definition_in dialect.scope p) in
+      let f : Around → Scoped D = λ here. search_pieces dialect world local scope search deeper here front in
+      let g : Around → Scoped D = λ here. search_pieces dialect world local scope search deeper here back in
+      same_next a a (λ here. and_next (f here) g here) (λ here. search_pieces dialect world local scope search deeper here (front ++ back)) around
       refl (parts-append (behind a.defines around) front back)
       ∙ sym (and_next_assoc a f g around)

@@ -1,5 +1,5 @@
 -- Worked examples of Rust's textual scope, by computation: small texts, read word by word.
-use Rattle.std.proofs.Common.{◌≡◌, ℕ, Bool, false, List, [], ◌∷◌, map, Some, None, refl, if◌then◌else◌}
+use Rattle.std.proofs.Common.{◌≡◌, ℕ, Bool, true, false, List, [], ◌∷◌, map, Some, None, refl, if◌then◌else◌}
 use Rattle.std.specs.Prelude.{codes, flat_map, Ok}
 use Prim.Native.String.{String}
 use Rattle.tt_data.specs.Forest.{Forest, empty, leaf, group, joined}
@@ -8,11 +8,11 @@ use Rattle.expander_model.specs.declared.fault.FaultKind.{FaultKind}
 use Rattle.expander_model.specs.declared.fault.FaultKind.TheVariants.{CannotExpand, BrokenDefinition, RecursionLimit}
 use Rattle.expander_model.specs.Definitions.{Definition}
 use Rattle.expander_model.specs.Expansion.{World}
-use Rattle.expander_model.specs.Meaning.{Layers, Member, plain, defining, member_faults, output_of}
+use Rattle.expander_model.specs.Meaning.{Layers, Member, plain, defining, member_faults, members_after, output_of}
 use Rattle.expander_model.specs.Pieces.{pieces}
 use Rattle.expander_model.specs.declared.scope_rules.ScopeRules.{ScopeRules}
 use Rattle.expander_model.specs.declared.scope_rules.ScopeRules.TheVariants.{TopLevel, Rust}
-use Rattle.textual_scope.specs.ScopedMeaning.{scoped_members}
+use Rattle.expander_model.specs.declared.dialect.Dialect.{Dialect}
 use Rattle.textual_scope.proofs.Lines.{words, trees, step_word}
 
 -- ---- what definitions mean here
@@ -33,26 +33,43 @@ filled argument empty = empty
 filled argument (leaf l rest) = joined (if is_punct "$" l then argument else leaf l empty) (filled argument rest)
 filled argument (group d inner rest) = group d (filled argument inner) (filled argument rest)
 
-abbrev pub toy : World Definition
-toy = record {
+-- these rules of scopes, and no other option
+abbrev pub by : ScopeRules → Dialect
+by rules = record { scope = rules; items = false }
+
+-- Rust's rules, where the `;` behind an item's call goes with it
+abbrev pub with_items : Dialect
+with_items = record { scope = Rust; items = true }
+
+abbrev pub toy : Dialect → World Definition
+toy dialect = record {
   broken = λ d. is_broken d.body;
   fit = λ d argument. if fits_none d.body then None else Some (filled argument d.body);
   bursts = λ d argument. false;
+  dialect = dialect;
 }
 
-abbrev layers : Layers
-layers = record { read = λ text. Ok empty; world = toy; spelling = λ step more. None }
+abbrev layers : Dialect → Layers
+layers dialect = record { read = λ text. Ok empty; world = toy dialect; spelling = λ step more. None }
 
-abbrev members_of : ScopeRules → ℕ → String → List Member
-members_of rules depth line = scoped_members rules layers depth [] (pieces (trees line))
+abbrev members_of : Dialect → ℕ → String → List Member
+members_of dialect depth line = members_after (layers dialect) depth [] (pieces (trees line))
 
 -- the words that are printed
+abbrev prints_by : Dialect → String → List (List ℕ)
+prints_by dialect line = map (λ s. step_word s.step) (flat_map output_of (members_of dialect 4 line))
+
 abbrev pub prints : ScopeRules → String → List (List ℕ)
-prints rules line = map (λ s. step_word s.step) (flat_map output_of (members_of rules 4 line))
+prints rules line = prints_by (by rules) line
+
+-- the same, where the `;` behind an item's call goes with it
+abbrev items : String → List (List ℕ)
+items line = prints_by with_items line
 
 -- the faults, each at the index of a word
 abbrev pub faults : ScopeRules → String → List (FaultKind × ℕ)
-faults rules line = map (λ f. (f.kind, f.range.start)) (flat_map (member_faults layers) (members_of rules 4 line))
+faults rules line =
+    map (λ f. (f.kind, f.range.start)) (flat_map (member_faults (layers (by rules))) (members_of (by rules) 4 line))
 
 -- the names that a piece looks up outside of its lists
 abbrev looked_up_in : Member → List (List ℕ)
@@ -60,7 +77,7 @@ looked_up_in (plain piece outcome) = map (λ find. find.0) outcome.finds
 looked_up_in (defining d) = []
 
 abbrev pub looks_up : String → List (List ℕ)
-looks_up line = flat_map looked_up_in (members_of Rust 4 line)
+looks_up line = flat_map looked_up_in (members_of (by Rust) 4 line)
 
 -- ---- what a list defines
 
@@ -182,3 +199,92 @@ no_level_left = refl
 
 told_once : faults Rust "macro_rules ! l { macro_rules ! n { l ! { } } n ! { } } fn f ( ) { l ! { } }" ≡ (RecursionLimit, 23) ∷ []
 told_once = refl
+
+-- ---- the `;` behind an item's call
+
+-- it goes with a call that stands alone in parentheses or brackets
+behind_parentheses : items "macro_rules ! m { i } m ! ( ) ; m ! [ ] ; j" ≡ words "i i j"
+behind_parentheses = refl
+
+without_the_option_it_stays : prints Rust "macro_rules ! m { i } m ! ( ) ; mod a { m ! ( ) ; }" ≡ words "i ; mod a { i ; }"
+without_the_option_it_stays = refl
+
+one_alone_goes : items "macro_rules ! m { i } m ! ( ) ; ;" ≡ words "i ;"
+one_alone_goes = refl
+
+-- braces end the call's piece, and the `;` is one of its own
+not_behind_braces : items "macro_rules ! m { i } m ! { } ; mod a { m ! { } ; }" ≡ words "i ; mod a { i ; }"
+not_behind_braces = refl
+
+behind_attributes : items "macro_rules ! m { i } # ! [ a ] # [ b ] # [ c ] m ! ( ) ;" ≡ words "# ! [ a ] # [ b ] # [ c ] i"
+behind_attributes = refl
+
+behind_a_root : items "macro_rules ! m { i } $crate : : m ! ( ) ;" ≡ words "i"
+behind_a_root = refl
+
+-- behind another word the call does not stand alone, neither where more follows
+not_behind_words : items "macro_rules ! m { i } pub m ! ( ) ; x m ! ( ) ; m ! ( ) + 1 ; m ! ( ) m ! ( ) ;" ≡ words "pub i ; x i ; i + 1 ; i i ;"
+not_behind_words = refl
+
+-- a call that stays keeps it: of no definition, of one that does not fit, of an invalid one
+unknown_calls_keep_it : items "u ! ( ) ; a : : u ! ( ) ;" ≡ words "u ! ( ) ; a : : u ! ( ) ;"
+unknown_calls_keep_it = refl
+
+failed_calls_keep_it : items "macro_rules ! z { % } z ! ( ) ; macro_rules ! b { ? } b ! ( ) ;" ≡ words "z ! ( ) ; b ! ( ) ;"
+failed_calls_keep_it = refl
+
+-- and one for which no level is left
+the_last_call_keeps_it : items "macro_rules ! l { l ! ( ) ; } l ! ( ) ;" ≡ words "l ! ( ) ;"
+the_last_call_keeps_it = refl
+
+-- ---- lists of items
+
+in_modules : items "macro_rules ! m { i } mod a { m ! ( ) ; }" ≡ words "mod a { i }"
+in_modules = refl
+
+in_traits : items "macro_rules ! m { i } # [ a ] pub ( crate ) unsafe trait T { m ! ( ) ; } pub auto trait T { m ! ( ) ; }"
+    ≡ words "# [ a ] pub ( crate ) unsafe trait T { i } pub auto trait T { i }"
+in_traits = refl
+
+in_implementations : items "macro_rules ! m { i } default unsafe impl < A > B for [ A ] { m ! ( ) ; }" ≡ words "default unsafe impl < A > B for [ A ] { i }"
+in_implementations = refl
+
+in_extern_blocks : items "macro_rules ! m { i } extern 'C { m ! ( ) ; } unsafe extern { m ! ( ) ; }" ≡ words "extern 'C { i } unsafe extern { i }"
+in_extern_blocks = refl
+
+-- a word alone decides nothing: these are functions
+not_in_functions : items "macro_rules ! m { i } fn f ( ) - > impl T { m ! ( ) ; } extern 'C fn g ( ) { m ! ( ) ; } pub fn h ( ) { m ! ( ) ; }"
+    ≡ words "fn f ( ) - > impl T { i ; } extern 'C fn g ( ) { i ; } pub fn h ( ) { i ; }"
+not_in_functions = refl
+
+items_and_functions : items "macro_rules ! m { i } mod a { fn f ( ) { m ! ( ) ; mod b { m ! ( ) ; } } m ! ( ) ; ( m ! ( ) ; ) }"
+    ≡ words "mod a { fn f ( ) { i ; mod b { i } } i ( i ; ) }"
+items_and_functions = refl
+
+-- braces before those of an implementation are taken for them, and the others for no list of items
+braces_in_between : items "macro_rules ! m { i } impl A < { m ! ( ) ; } > for B { m ! ( ) ; }" ≡ words "impl A < { i } > for B { i ; }"
+braces_in_between = refl
+
+-- a call among the words before them changes nothing
+calls_in_between : items "macro_rules ! m { i } macro_rules ! t { T } impl t ! ( ) for t ! [ ] { m ! ( ) ; }" ≡ words "impl T for T { i }"
+calls_in_between = refl
+
+definitions_of_items : items "mod a { macro_rules ! m { i } m ! ( ) ; }" ≡ words "mod a { i }"
+definitions_of_items = refl
+
+-- what a call makes stands where the call stood
+in_results : items "macro_rules ! m { i } macro_rules ! r { m ! ( ) ; mod a { m ! ( ) ; } fn f ( ) { m ! ( ) ; } } r ! ( ) ; fn g ( ) { r ! ( ) ; }"
+    ≡ words "i mod a { i } fn f ( ) { i ; } fn g ( ) { i ; mod a { i } fn f ( ) { i ; } ; }"
+in_results = refl
+
+-- the argument of a call that stays is no list of items
+not_in_arguments : items "macro_rules ! m { i } u ! ( m ! ( ) ; mod a { m ! ( ) ; } )" ≡ words "u ! ( i ; mod a { i ; } )"
+not_in_arguments = refl
+
+-- an invisible group is where it stands; what is in one names no item
+invisible_groups_are_lists_too : items "macro_rules ! m { i } <| m ! ( ) ; |> mod <| a |> { m ! ( ) ; } <| mod |> b { m ! ( ) ; }"
+    ≡ words "<| i |> mod <| a |> { i ; } <| mod |> b { i ; }"
+invisible_groups_are_lists_too = refl
+
+by_top_level_rules_too : prints_by (record { scope = TopLevel; items = true }) "macro_rules ! m { i } mod a { m ! ( ) ; }" ≡ words "mod a { i }"
+by_top_level_rules_too = refl

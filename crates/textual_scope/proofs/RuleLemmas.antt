@@ -1,5 +1,5 @@
 -- What the scope rules have in common with expansions that know no lists.
-use Rattle.std.proofs.Common.{◌≡◌, ℕ, List, [], ◌∷◌, Bool, true, false, Option, Some, None, Result, Ok, Err, refl, subst, ap, ◌∙◌, if◌then◌else◌}
+use Rattle.std.proofs.Common.{◌≡◌, inl, inr, ℕ, List, [], ◌∷◌, Bool, true, false, Option, Some, None, Result, Ok, Err, refl, subst, sym, ap, ◌∙◌, if◌then◌else◌}
 use Rattle.std.specs.Prelude.{All}
 use Rattle.std.proofs.lemmas.List.Elements.{All-cons, All-head, All-tail}
 use Rattle.tt_data.specs.Forest.{Forest}
@@ -7,20 +7,21 @@ use Rattle.bridge.specs.declared.reading.outcome.ReadFault.{ReadFault}
 use Rattle.small_grammar.specs.Text.{same_text}
 use Rattle.expander_model.specs.Calls.{Marked, none, token, inside, call, marked, unmarked}
 use Rattle.expander_model.specs.Definitions.{Definition, definition_of, nearest}
-use Rattle.expander_model.specs.Expansion.{World, search_calls, expansion}
+use Rattle.expander_model.specs.Expansion.{World, expansion}
 use Rattle.expander_model.specs.Meaning.{Layers, plain, with_definition, member, members_after, meaning_of, meaning_over, meaning_in}
-use Rattle.expander_model.specs.Pieces.{pieces}
+use Rattle.expander_model.specs.declared.scope_rules.ScopeRules.{ScopeRules}
+use Rattle.expander_model.specs.Dialects as dialects
+use Rattle.expander_model.specs.Pieces.{cut, pieces}
+use Rattle.expander_model.specs.declared.dialect.Dialect.{Dialect}
 use Rattle.expander_model.specs.declared.scope_rules.ScopeRules.TheVariants.{TopLevel, Rust}
 use Rattle.textual_scope.specs.Keywords.{HasNoKeyword, AddsNoKeyword, NestsNone}
-use Rattle.textual_scope.specs.ScopedMeaning.{scoped_member, scoped_members, scoped_over, scoped_meaning}
+use Rattle.textual_scope.specs.TopLevelMeaning.{top_member, top_members, top_over, top_meaning}
 use Rattle.expander_model.specs.declared.scope_rules.Standing.TheVariants.{Top}
 use Rattle.expander_model.specs.declared.scope_rules.Standing.{Standing}
-use Rattle.expander_model.specs.Scoping.{without_locals, Scoped, only, scoped}
-use Rattle.textual_scope.proofs.ChainLemmas.{piece_by_piece}
+use Rattle.expander_model.specs.Scoping.{without_locals, Scoped, only, scoped, expanded}
 use Rattle.textual_scope.proofs.KeywordLemmas.{plain_pieces, none_inside}
 use Rattle.textual_scope.proofs.MarkLemmas.{AllInside}
-use Rattle.textual_scope.proofs.PlainLemmas.{HasNone, as_expansion}
-use Rattle.textual_scope.proofs.ResultLemmas.{followed_by_nothing}
+use Rattle.textual_scope.proofs.PlainLemmas.{ArePlain, HasNone, as_expansion}
 
 abbrev Any : Forest → Type 0
 Any f = Unit {0}
@@ -31,48 +32,82 @@ any_inside (token l m) = any_inside m
 any_inside (inside d a m) = (tt, any_inside m)
 any_inside (call path name bang d a m) = (tt, any_inside m)
 
+any_pieces : (ps : List Forest) → ArePlain TopLevel Any ps
+any_pieces [] = tt
+any_pieces (p ∷ ps) = (refl, tt, any_pieces ps)
+
+-- what has no definition by Rust's rules has none by any
+plain_by : (Plain : Forest → Type 0) (rules : ScopeRules) (ps : List Forest) → ArePlain Rust Plain ps → ArePlain rules Plain ps
+plain_by Plain rules [] h = tt
+plain_by Plain TopLevel (p ∷ ps) h = (refl, h.1, plain_by Plain TopLevel ps h.2)
+plain_by Plain Rust (p ∷ ps) h = h
+
 module _ {D : Type 0} (world : World D) (local : Definition → D) (scope : List ℕ → Option D) where
   -- under `TopLevel` no list has definitions
-  top_level_none : HasNone TopLevel world scope Any
+  top_level_none : HasNone dialects.top_level world scope Any
   top_level_none = record {
-    in_parts = λ f h. (refl, tt, tt);
+    in_parts = λ f h. any_pieces (cut f);
+    keeps = inl refl;
     inner = λ f h. any_inside (marked f);
     results = λ key d e argument result h fit. tt;
-    whole = λ deeper outer f. followed_by_nothing (search_calls world scope deeper outer (marked f)) outer;
   }
 
   pub top_level : (depth : ℕ) (standing : Standing) (outer : Option _) (f : Forest)
-      → scoped TopLevel world local scope depth (without_locals standing outer) f ≡ only (expansion world scope depth outer f)
-  top_level depth standing outer f = as_expansion TopLevel world local scope Any top_level_none depth standing outer f tt
+      → scoped dialects.top_level world local scope depth (without_locals standing outer) f ≡ only (expansion world scope depth outer f)
+  top_level depth standing outer f = as_expansion dialects.top_level world local scope Any top_level_none depth standing outer f tt
 
--- without keywords none has any under `Rust` either
-without_keywords : (world : World Definition) (scope : List ℕ → Option Definition) → ((key : List ℕ) (d : Definition) → scope key ≡ Some d → AddsNoKeyword world d)
-    → HasNone Rust world scope HasNoKeyword
-without_keywords world scope adds = record {
-  in_parts = plain_pieces;
+  -- a tree is expanded as if no list had definitions
+  pub top_expanded : world.dialect ≡ dialects.top_level → (depth : ℕ) (f : Forest) → expanded world local scope depth f ≡ expansion world scope depth None f
+  top_expanded is depth f =
+      subst (λ r. (scoped r world local scope depth (without_locals Top None) f).outcome ≡ expansion world scope depth None f) (sym is)
+      (ap (λ (a : Scoped D). a.outcome) (top_level depth Top None f))
+
+-- without keywords no list has any by Rust's rules either
+without_keywords : (dialect : Dialect) → dialect.items ≡ false → (world : World Definition) (scope : List ℕ → Option Definition)
+    → ((key : List ℕ) (d : Definition) → scope key ≡ Some d → AddsNoKeyword world d) → HasNone dialect world scope HasNoKeyword
+without_keywords dialect keeps world scope adds = record {
+  in_parts = λ f h. plain_by HasNoKeyword dialect.scope (cut f) (plain_pieces f h);
+  keeps = inl keeps;
   inner = none_inside;
   results = λ key d e argument result h fit. adds key d e argument result h fit;
-  whole = λ deeper outer f. piece_by_piece world scope deeper outer f;
 }
 
 module _ (world : World Definition) (local : Definition → Definition) (scope : List ℕ → Option Definition)
     (adds : (key : List ℕ) (d : Definition) → scope key ≡ Some d → AddsNoKeyword world d) where
-  pub no_keyword_in : (depth : ℕ) (standing : Standing) (outer : Option _) (f : Forest) → HasNoKeyword f
-      → scoped Rust world local scope depth (without_locals standing outer) f ≡ only (expansion world scope depth outer f)
-  no_keyword_in depth standing outer f h = as_expansion Rust world local scope HasNoKeyword (without_keywords world scope adds) depth standing outer f h
+  -- by either rules, where each `;` stays
+  pub no_keyword_in : (dialect : Dialect) → dialect.items ≡ false → (depth : ℕ) (standing : Standing) (outer : Option _) (f : Forest) → HasNoKeyword f
+      → scoped dialect world local scope depth (without_locals standing outer) f ≡ only (expansion world scope depth outer f)
+  no_keyword_in dialect keeps depth standing outer f h =
+      as_expansion dialect world local scope HasNoKeyword (without_keywords dialect keeps world scope adds) depth standing outer f h
 
--- where names find nothing outside of lists, trees without keywords have no definitions
-wordless_none : {D : Type 0} → (world : World D) → HasNone Rust world (λ key. None) HasNoKeyword
-wordless_none world = record {
-  in_parts = plain_pieces;
-  inner = none_inside;
-  results = λ key d e argument result h fit. absurd (cc e);
-  whole = λ deeper outer f. piece_by_piece world (λ key. None) deeper outer f;
-}
+  pub wordless_expanded : world.dialect.items ≡ false → (depth : ℕ) (f : Forest) → HasNoKeyword f → expanded world local scope depth f ≡ expansion world scope depth None f
+  wordless_expanded keeps depth f h = ap (λ (a : Scoped Definition). a.outcome) (no_keyword_in world.dialect keeps depth Top None f h)
 
-pub wordless_scoped : {D : Type 0} → (world : World D) (local : Definition → D) (depth : ℕ) (f : Forest) → HasNoKeyword f
-    → scoped Rust world local (λ key. None) depth (without_locals Top None) f ≡ only (expansion world (λ key. None) depth None f)
-wordless_scoped world local depth f h = as_expansion Rust world local (λ key. None) HasNoKeyword (wordless_none world) depth Top None f h
+-- where names find nothing outside of lists, trees have no definitions if by the rules they have no keyword of one
+module _ {D : Type 0} (world : World D) (local : Definition → D) (depth : ℕ) (f : Forest) where
+  abbrev Unfound : Dialect → Type 0
+  Unfound dialect = scoped dialect world local (λ key. None) depth (without_locals Top None) f ≡ only (expansion world (λ key. None) depth None f)
+
+  unfound_by : (rules : ScopeRules) (items : Bool) → (rules ≡ Rust → HasNoKeyword f) → Unfound (record { scope = rules; items = items })
+  unfound_by TopLevel items h =
+      as_expansion (record { scope = TopLevel; items = items }) world local (λ key. None) Any
+      (record {
+        in_parts = λ g k. any_pieces (cut g);
+        keeps = inr (λ key. refl);
+        inner = λ g k. any_inside (marked g);
+        results = λ key d e argument result k fit. tt;
+      }) depth Top None f tt
+  unfound_by Rust items h =
+      as_expansion (record { scope = Rust; items = items }) world local (λ key. None) HasNoKeyword
+      (record {
+        in_parts = plain_pieces;
+        keeps = inr (λ key. refl);
+        inner = none_inside;
+        results = λ key d e argument result k fit. absurd (cc e);
+      }) depth Top None f (h refl)
+
+  pub unfound_scoped : (dialect : Dialect) → (dialect.scope ≡ Rust → HasNoKeyword f) → Unfound dialect
+  unfound_scoped dialect h = unfound_by dialect.scope dialect.items h
 
 -- what the nearest definition of a name has, if all definitions have it
 nearest_has : (P : Definition → Type 0) (before : List Definition) → All P before → (key : List ℕ) (d : Definition) → nearest before key ≡ Some d → P d
@@ -84,44 +119,43 @@ nearest_has P (x ∷ before) all key d e = go (same_text x.name.sym key) e (near
     go false h more = more h
 
 module _ (layers : Layers) (depth : ℕ) where
-  top_level_members : (before : List Definition) (ps : List Forest) → scoped_members TopLevel layers depth before ps ≡ members_after layers depth before ps
-  top_level_members before [] = refl
-  top_level_members before (p ∷ ps) =
-      ap (λ m. m ∷ scoped_members TopLevel layers depth (with_definition (definition_of p) before) ps) (go (definition_of p))
-      ∙ ap (λ ms. member layers depth before p (definition_of p) ∷ ms) (top_level_members (with_definition (definition_of p) before) ps)
+  top_level_members : layers.world.dialect ≡ dialects.top_level → (before : List Definition) (ps : List Forest) → members_after layers depth before ps ≡ top_members layers depth before ps
+  top_level_members is before [] = refl
+  top_level_members is before (p ∷ ps) =
+      ap (λ m. m ∷ members_after layers depth (with_definition (definition_of p) before) ps) (go (definition_of p))
+      ∙ ap (λ ms. top_member layers depth before p (definition_of p) ∷ ms) (top_level_members is (with_definition (definition_of p) before) ps)
     where
-      go : (d : Option Definition) → scoped_member TopLevel layers depth before p d ≡ member layers depth before p d
+      go : (d : Option Definition) → member layers depth before p d ≡ top_member layers depth before p d
       go (Some d) = refl
-      go None = ap (λ (a : Scoped Definition). plain p a.outcome) (top_level layers.world (λ d. d) (nearest before) depth Top None p)
+      go None = ap (plain p) (top_expanded layers.world (λ d. d) (nearest before) is depth p)
 
   abbrev Nests : Forest → Type 0
   Nests p = NestsNone layers.world p (definition_of p)
 
-  same_members : (before : List Definition) (ps : List Forest) → All (AddsNoKeyword layers.world) before → All Nests ps
-      → scoped_members Rust layers depth before ps ≡ members_after layers depth before ps
-  same_members before [] adds nests = refl
-  same_members before (p ∷ ps) adds nests =
-      ap (λ m. m ∷ scoped_members Rust layers depth (with_definition (definition_of p) before) ps) (here (definition_of p) (All-head Nests p ps nests))
-      ∙ ap (λ ms. member layers depth before p (definition_of p) ∷ ms)
-      (same_members (with_definition (definition_of p) before) ps (more (definition_of p) (All-head Nests p ps nests)) (All-tail Nests p ps nests))
+  same_members : layers.world.dialect.items ≡ false → (before : List Definition) (ps : List Forest) → All (AddsNoKeyword layers.world) before → All Nests ps
+      → members_after layers depth before ps ≡ top_members layers depth before ps
+  same_members keeps before [] adds nests = refl
+  same_members keeps before (p ∷ ps) adds nests =
+      ap (λ m. m ∷ members_after layers depth (with_definition (definition_of p) before) ps) (here (definition_of p) (All-head Nests p ps nests))
+      ∙ ap (λ ms. top_member layers depth before p (definition_of p) ∷ ms)
+      (same_members keeps (with_definition (definition_of p) before) ps (more (definition_of p) (All-head Nests p ps nests)) (All-tail Nests p ps nests))
     where
-      here : (d : Option Definition) → NestsNone layers.world p d → scoped_member Rust layers depth before p d ≡ member layers depth before p d
+      here : (d : Option Definition) → NestsNone layers.world p d → member layers depth before p d ≡ top_member layers depth before p d
       here (Some d) h = refl
-      here None h = ap (λ (a : Scoped Definition). plain p a.outcome)
-          (no_keyword_in layers.world (λ d. d) (nearest before) (nearest_has (AddsNoKeyword layers.world) before adds) depth Top None p h)
+      here None h = ap (plain p) (wordless_expanded layers.world (λ d. d) (nearest before) (nearest_has (AddsNoKeyword layers.world) before adds) keeps depth p h)
 
       more : (d : Option Definition) → NestsNone layers.world p d → All (AddsNoKeyword layers.world) (with_definition d before)
       more None h = adds
       more (Some d) h = All-cons (AddsNoKeyword layers.world) d before h adds
 
-  pub top_level_meaning : (initial : List Definition) (text : List ℕ) → scoped_meaning TopLevel layers depth initial text ≡ meaning_in layers depth initial text
-  top_level_meaning initial text = go (layers.read text)
+  pub top_level_meaning : layers.world.dialect ≡ dialects.top_level → (initial : List Definition) (text : List ℕ) → meaning_in layers depth initial text ≡ top_meaning layers depth initial text
+  top_level_meaning is initial text = go (layers.read text)
     where
-      go : (read : Result Forest ReadFault) → scoped_over TopLevel layers depth initial read ≡ meaning_over layers depth initial read
+      go : (read : Result Forest ReadFault) → meaning_over layers depth initial read ≡ top_over layers depth initial read
       go (Err fault) = refl
-      go (Ok f) = ap (λ ms. Ok (meaning_of layers ms)) (top_level_members initial (pieces f))
+      go (Ok f) = ap (λ ms. Ok (meaning_of layers ms)) (top_level_members is initial (pieces f))
 
-  pub same_meaning : (initial : List Definition) (text : List ℕ) (f : Forest) → layers.read text ≡ Ok f
+  pub same_meaning : layers.world.dialect.items ≡ false → (initial : List Definition) (text : List ℕ) (f : Forest) → layers.read text ≡ Ok f
       → All (AddsNoKeyword layers.world) initial → All Nests (pieces f)
-      → scoped_meaning Rust layers depth initial text ≡ meaning_in layers depth initial text
-  same_meaning initial text f e adds nests = rw e (ap (λ ms. Ok (meaning_of layers ms)) (same_members initial (pieces f) adds nests))
+      → meaning_in layers depth initial text ≡ top_meaning layers depth initial text
+  same_meaning keeps initial text f e adds nests = rw e (ap (λ ms. Ok (meaning_of layers ms)) (same_members keeps initial (pieces f) adds nests))

@@ -14,11 +14,12 @@ use Rattle.bridge.specs.declared.reading.outcome.ReadFault.{ReadFault}
 use Rattle.expander_model.specs.declared.fault.Fault.{Fault}
 use Rattle.expander_model.specs.declared.fault.FaultKind.{FaultKind}
 use Rattle.expander_model.specs.declared.fault.FaultKind.TheVariants.{CannotExpand, BrokenDefinition, RecursionLimit, NestedDefinition}
-use Rattle.expander_model.specs.Meaning.{Layers, ReadMeaning}
+use Rattle.expander_model.specs.Meaning.{Layers, ReadMeaning, meaning_in}
 use Rattle.expander_model.specs.Printing.{spelling_before}
 use Rattle.expander_model.specs.World.{world}
+use Rattle.expander_model.specs.declared.dialect.Dialect.{Dialect}
 use Rattle.expander_model.specs.declared.scope_rules.ScopeRules.TheVariants.{Rust}
-use Rattle.textual_scope.specs.ScopedMeaning.{scoped_meaning}
+use Rattle.textual_scope.proofs.Rows.{by, with_items}
 
 -- what a row shows of a text's meaning
 data Shown : Type 0 where
@@ -34,11 +35,15 @@ lines [] = []
 lines (l ∷ ls) = l ++ (10 ∷ lines ls)
 
 -- by the small grammar, in edition 2024, with eight levels
-abbrev layers : Layers
-layers = record { read = text_reading; world = world answer Edition2024; spelling = spelling_before }
+abbrev layers : Dialect → Layers
+layers dialect = record { read = text_reading; world = world answer Edition2024 dialect; spelling = spelling_before }
 
 abbrev of : List (List ℕ) → Shown
-of ls = shown (scoped_meaning Rust layers 8 [] (lines ls))
+of ls = shown (meaning_in (layers (by Rust)) 8 [] (lines ls))
+
+-- where the `;` behind an item's call goes with it
+abbrev of_items : List (List ℕ) → Shown
+of_items ls = shown (meaning_in (layers with_items) 8 [] (lines ls))
 
 abbrev fault : FaultKind → ℕ → ℕ → Fault
 fault kind start end = record { kind = kind; range = record { start = start; «end» = end } }
@@ -108,3 +113,21 @@ macros_too : of (codes "fn f() { macro m($x:tt) { $x } m!(1); pub(crate) macro n
     ≡ gives (lines (codes "fn f ( ) { 1 ; 2 }" ∷ [])) ([])
 unfolding chars is_utf8 is_xid_start is_xid_continue in_ranges xid_start_ranges xid_continue_ranges encode_utf8
 macros_too = refl
+
+-- ---- the `;` behind an item's call
+
+behind_items : of_items (codes "macro_rules! m { () => { fn f() {} } }" ∷ codes "m!();" ∷ codes "mod a { m!(); fn g() { m!(); } }" ∷ codes "#[x] m![];" ∷ [])
+    ≡ gives (lines (codes "fn f ( ) { }" ∷ codes "mod a { fn f ( ) { } fn g ( ) { fn f ( ) { } ; } }" ∷ codes "# [ x ] fn f ( ) { }" ∷ [])) ([])
+unfolding chars is_utf8 is_xid_start is_xid_continue in_ranges xid_start_ranges xid_continue_ranges encode_utf8
+behind_items = refl
+
+-- a raw word is a name
+in_lists_of_items : of_items (codes "macro_rules! m { () => { type A; } }" ∷ codes "pub unsafe extern \"C\" { m!(); }" ∷ codes "impl r#mod { m!(); }" ∷ codes "r#mod a { m!(); }" ∷ [])
+    ≡ gives (lines (codes "pub unsafe extern \"C\" { type A ; }" ∷ codes "impl r#mod { type A ; }" ∷ codes "r#mod a { type A ; ; }" ∷ [])) ([])
+unfolding chars is_utf8 is_xid_start is_xid_continue in_ranges xid_start_ranges xid_continue_ranges encode_utf8
+in_lists_of_items = refl
+
+failed_calls_keep_it : of_items (codes "macro_rules! m { () => { } }" ∷ codes "m!(1); m!(); u!();" ∷ [])
+    ≡ gives (lines (codes "m ! ( 1 ) ;" ∷ codes "u ! ( ) ;" ∷ [])) (fault CannotExpand 29 30 ∷ [])
+unfolding chars is_utf8 is_xid_start is_xid_continue in_ranges xid_start_ranges xid_continue_ranges encode_utf8
+failed_calls_keep_it = refl

@@ -11,8 +11,8 @@ use Rattle.expander_model.specs.PieceStates.{after_leaf, after_group}
 use Rattle.expander_model.specs.Pieces.{cut}
 use Rattle.expander_model.specs.declared.begun.Begun.{Begun}
 use Rattle.expander_model.specs.declared.begun.Begun.TheVariants.{Nothing}
-use Rattle.expander_model.specs.declared.scope_rules.ScopeRules.TheVariants.{Rust}
-use Rattle.expander_model.specs.Scoping.{Around, Scoped, Search, and_next, search_trees, search_parts}
+use Rattle.expander_model.specs.declared.dialect.Dialect.{Dialect}
+use Rattle.expander_model.specs.Scoping.{Around, Scoped, Search, and_next, search_trees, search_pieces}
 
 -- a tree before those of the first piece ahead
 abbrev pub with_leaf : Leaf → Forest × Forest → Forest × Forest
@@ -44,17 +44,17 @@ AreOfCall (other p q) bang d = (is_bang_group bang d ≡ true) × (is_colons p q
 AreOfCall (from_crate root p q) bang d =
     (is_bang_group bang d ≡ true) × (is_colons p q ≡ true) × (is_root root ≡ true)
 
-module _ {D : Type 0} (world : World D) (local : Definition → D) (scope : List ℕ → Option D)
-    (search : Search D) (deeper : Option (Search D)) where
+module _ {D : Type 0} (dialect : Dialect) (world : World D) (local : Definition → D)
+    (scope : List ℕ → Option D) (search : Search D) (deeper : Option (Search D)) where
   -- the search of pieces that are not begun
   abbrev pub pieces_left : Around → Forest → Scoped D
-  pieces_left around f = search_parts Rust world local scope search deeper around (cut f)
+  pieces_left around f = search_pieces dialect world local scope search deeper around (cut f)
 
   -- the search of what is left of a list, where so much came of a piece that is no definition
   abbrev pub trees_left : Begun → Around → Forest → Scoped D
   trees_left s around f =
       let p : Forest × Forest = piece_ahead s f in
-      and_next (search_trees Rust world local scope search deeper around (marked p.0))
+      and_next (search_trees dialect world local scope search deeper s around (marked p.0))
       (λ here. pieces_left here p.1) around
 
   -- the same, once a tree ended the piece or went on with it

@@ -1,5 +1,5 @@
--- what names find, and what a text means, under each of the scope rules
-pub mod ScopedMeaning
+-- what a text means where no list has definitions
+pub mod TopLevelMeaning
 -- what the laws rest on
 pub mod Keywords
 pub mod ScopeChanges

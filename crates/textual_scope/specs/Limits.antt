@@ -4,7 +4,7 @@ use Rattle.std.specs.Prelude.{ℕ, zero, suc, ◌-◌, Bool, false, ◌||◌, Li
 use Rattle.tt_data.specs.Forest.{Forest, size}
 use Rattle.expander_model.specs.Definitions.{Definition}
 use Rattle.expander_model.specs.Expansion.{World, found}
-use Rattle.expander_model.specs.declared.scope_rules.ScopeRules.{ScopeRules}
+use Rattle.expander_model.specs.declared.dialect.Dialect.{Dialect}
 use Rattle.expander_model.specs.Scoping.{Around, Scoped, Search, search_list}
 
 -- at most so many calls, and so many tokens
@@ -36,6 +36,7 @@ noted_world world = record {
   broken = noted_broken world;
   fit = noted_fit world;
   bursts = noted_bursts world;
+  dialect = world.dialect;
 }
 
 -- a result is searched, and noted before what is in it
@@ -75,12 +76,12 @@ until_passed calls tokens ((key, Some (definition d)) ∷ notes) =
 until_passed calls tokens ((key, None) ∷ notes) =
     option_map (λ finds. (key, None) ∷ finds) (until_passed calls tokens notes)
 
-module _ {D : Type 0} (rules : ScopeRules) (world : World D) (local : Definition → D)
+module _ {D : Type 0} (dialect : Dialect) (world : World D) (local : Definition → D)
     (scope : List ℕ → Option D) where
   -- a list, searched in that world
   abbrev pub noted_list : Option (Search (Noted D)) → ℕ → Search (Noted D)
   noted_list =
-      search_list rules (noted_world world) (λ d. definition (local d))
+      search_list dialect (noted_world world) (λ d. definition (local d))
       (λ key. option_map definition (scope key))
 
   -- the expansion of a list with n levels left, with its notes among its look-ups

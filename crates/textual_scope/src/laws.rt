@@ -4,6 +4,7 @@ ghost use Rattle.tt_data.specs.Forest.{Forest, map_spans, size};
 ghost use Rattle.tt_data.specs.Literals.{LiteralParts};
 ghost use Rattle.tt_data.specs.declared.span.Span.{Span};
 ghost use Rattle.expander_model.specs.Changes.{Changes, ScopeChange};
+ghost use Rattle.expander_model.specs.Dialects.{top_level};
 ghost use Rattle.expander_model.specs.Definitions.{Definition, after_attribute, definition_of};
 ghost use Rattle.expander_model.specs.Expansion.{World, expansion, just};
 ghost use Rattle.expander_model.specs.Meaning.{Layers, meaning_in};
@@ -13,76 +14,80 @@ ghost use Rattle.textual_scope.specs.Conditions.{Options, definition_under, is_c
 ghost use Rattle.textual_scope.specs.Keywords.{AddsNoKeyword, HasNoKeyword, NestsNone};
 ghost use Rattle.textual_scope.specs.Limits.{Limits, noted, too_large, unnoted};
 ghost use Rattle.textual_scope.specs.ScopeChanges.{around_with, scoped_with};
-ghost use Rattle.textual_scope.specs.ScopedMeaning.{scoped_meaning};
+ghost use Rattle.textual_scope.specs.TopLevelMeaning.{top_meaning};
 ghost use Rattle.expander_model.specs.declared.scope_rules.Standing.{Standing};
-ghost use Rattle.expander_model.specs.Scoping.{Around, Scoped, Search, and_next, only, scoped, search_list, search_parts, without_locals};
-ghost use Rattle.expander_model.specs.declared.scope_rules.ScopeRules.{ScopeRules};
-ghost use Rattle.expander_model.specs.declared.scope_rules.ScopeRules.TheVariants.{Rust, TopLevel};
+ghost use Rattle.expander_model.specs.Scoping.{Around, Scoped, Search, and_next, only, scoped, search_list, search_pieces, without_locals};
+ghost use Rattle.expander_model.specs.declared.dialect.Dialect.{Dialect};
+ghost use Rattle.expander_model.specs.declared.scope_rules.ScopeRules.TheVariants.{Rust};
 
-/// Under `TopLevel` a list is expanded as without scopes, and defines nothing: `lists`. A text
-/// means what it meant: `texts`.
+/// Where no option is set a list is expanded as if no list had definitions, and defines nothing:
+/// `lists`. A text means what it means where no list has them: `texts`.
 pub fn top_level_scope_is_as_before()
     ensures lists { (world : World Definition) (local : Definition → Definition)
         (scope : List ℕ → Option Definition) (depth : ℕ) (standing : Standing)
         (outer : Option Span) (f : Forest) →
-        scoped TopLevel world local scope depth (without_locals standing outer) f
+        scoped top_level world local scope depth (without_locals standing outer) f
         ≡ only (expansion world scope depth outer f) }
     ensures texts { (layers : Layers) (depth : ℕ) (initial : List Definition) (text : List ℕ) →
-        scoped_meaning TopLevel layers depth initial text ≡ meaning_in layers depth initial text }
+        layers.world.dialect ≡ top_level →
+        meaning_in layers depth initial text ≡ top_meaning layers depth initial text }
 {}
 
-/// Trees without a definition keyword are expanded under both rules alike, and define nothing, if
-/// the definitions in scope give none: `lists`. A text means the same under both rules, if no
-/// piece of it but definitions has a keyword, and they and those before it give none: `texts`.
+/// Where each `;` stays, trees without a definition keyword are expanded by Rust's rules as if no
+/// list had definitions, and define nothing, if the definitions in scope give none: `lists`. There
+/// a text means by both rules what it means where no list has definitions, if no piece of it but
+/// definitions has a keyword, and they and those before it give none: `texts`.
 pub fn without_keywords_both_rules_agree()
     ensures lists { (world : World Definition) (local : Definition → Definition)
         (scope : List ℕ → Option Definition) (depth : ℕ) (standing : Standing)
         (outer : Option Span) (f : Forest) →
         ((key : List ℕ) (d : Definition) → scope key ≡ Some d → AddsNoKeyword world d) →
         HasNoKeyword f →
-        scoped Rust world local scope depth (without_locals standing outer) f
+        scoped (record { scope = Rust; items = false }) world local scope depth
+        (without_locals standing outer) f
         ≡ only (expansion world scope depth outer f) }
     ensures texts { (layers : Layers) (depth : ℕ) (initial : List Definition) (text : List ℕ)
         (f : Forest) →
-        layers.read text ≡ Ok f → All (AddsNoKeyword layers.world) initial →
+        layers.world.dialect.items ≡ false → layers.read text ≡ Ok f →
+        All (AddsNoKeyword layers.world) initial →
         All (λ p. NestsNone layers.world p (definition_of p)) (pieces f) →
-        scoped_meaning Rust layers depth initial text ≡ meaning_in layers depth initial text }
+        meaning_in layers depth initial text ≡ top_meaning layers depth initial text }
 {}
 
 /// An expansion depends on what its look-ups find outside of all lists, and on nothing else there.
 pub fn expansions_depend_on_outer_lookups_alone()
-    ensures { (rules : ScopeRules) (world : World Definition) (local : Definition → Definition)
+    ensures { (dialect : Dialect) (world : World Definition) (local : Definition → Definition)
         (scope others : List ℕ → Option Definition) (depth : ℕ) (around : Around) (f : Forest) →
         All (λ find. others find.0 ≡ find.1)
-        (scoped rules world local scope depth around f).outcome.finds →
-        scoped rules world local others depth around f
-        ≡ scoped rules world local scope depth around f }
+        (scoped dialect world local scope depth around f).outcome.finds →
+        scoped dialect world local others depth around f
+        ≡ scoped dialect world local scope depth around f }
 {}
 
 /// A world is another with `f` applied to each span, and `h` to each definition that is looked up.
 /// Then a list at spans that `f` gives is expanded as at its own, and `f` and `h` applied.
 pub fn scoped_expansions_at_other_spans()
-    ensures { (rules : ScopeRules) (f : Span → Span) (h : Definition → Definition)
+    ensures { (dialect : Dialect) (f : Span → Span) (h : Definition → Definition)
         (one two : World Definition) (local moved : Definition → Definition)
         (scope changed : List ℕ → Option Definition) (depth : ℕ) (around : Around) (g : Forest) →
         Changes f h one two → ScopeChange h scope changed →
         ((d : Definition) → moved (definition_with f d) ≡ h (local d)) →
-        scoped rules two moved changed depth (around_with f around) (map_spans f g)
-        ≡ scoped_with f h (scoped rules one local scope depth around g) }
+        scoped dialect two moved changed depth (around_with f around) (map_spans f g)
+        ≡ scoped_with f h (scoped dialect one local scope depth around g) }
 {}
 
 /// With more steps than a list has tokens a search of it gives the same, however many they are.
 pub fn more_steps_change_nothing()
-    ensures { (rules : ScopeRules) (world : World Definition) (local : Definition → Definition)
+    ensures { (dialect : Dialect) (world : World Definition) (local : Definition → Definition)
         (scope : List ℕ → Option Definition) (deeper : Option (Search Definition)) (n m : ℕ)
         (around : Around) (f : Forest) →
         size f < n → size f < m →
-        search_list rules world local scope deeper n around f
-        ≡ search_list rules world local scope deeper m around f }
+        search_list dialect world local scope deeper n around f
+        ≡ search_list dialect world local scope deeper m around f }
 {}
 
 /// Of three results, one after another, it does not matter which two are put together first:
-/// `three`. Nothing before or after a result changes it: `before`, `after`. The parts of two
+/// `three`. Nothing before or after a result changes it: `before`, `after`. The pieces of two
 /// lists, one after another, are searched list by list: `lists`.
 pub fn results_follow_one_another()
     ensures three { (a : Scoped Definition) (f g : Around → Scoped Definition) (around : Around) →
@@ -92,13 +97,13 @@ pub fn results_follow_one_another()
         and_next (only (just outer [])) f around ≡ f around }
     ensures after { (a : Scoped Definition) (around : Around) →
         and_next a (λ here. only (just here.outer [])) around ≡ a }
-    ensures lists { (rules : ScopeRules) (world : World Definition)
+    ensures lists { (dialect : Dialect) (world : World Definition)
         (local : Definition → Definition) (scope : List ℕ → Option Definition)
         (search : Search Definition) (deeper : Option (Search Definition)) (around : Around)
         (front back : List Forest) →
-        search_parts rules world local scope search deeper around (front ++ back)
-        ≡ and_next (search_parts rules world local scope search deeper around front)
-        (λ here. search_parts rules world local scope search deeper here back) around }
+        search_pieces dialect world local scope search deeper around (front ++ back)
+        ≡ and_next (search_pieces dialect world local scope search deeper around front)
+        (λ here. search_pieces dialect world local scope search deeper here back) around }
 {}
 
 /// A piece without an outer attribute at its beginning is not left out: `others`. A piece that is
@@ -115,28 +120,28 @@ pub fn conditions_leave_other_pieces_alone()
 
 /// With its notes left out, a noted expansion is the expansion.
 pub fn notes_change_nothing()
-    ensures { (rules : ScopeRules) (world : World Definition) (local : Definition → Definition)
+    ensures { (dialect : Dialect) (world : World Definition) (local : Definition → Definition)
         (scope : List ℕ → Option Definition) (n : ℕ) (around : Around) (f : Forest) →
-        unnoted (noted rules world local scope n around f)
-        ≡ scoped rules world local scope n around f }
+        unnoted (noted dialect world local scope n around f)
+        ≡ scoped dialect world local scope n around f }
 {}
 
 /// What a call makes within limits is within larger ones.
 pub fn larger_limits_refuse_less()
-    ensures { (rules : ScopeRules) (world : World Definition) (local : Definition → Definition)
+    ensures { (dialect : Dialect) (world : World Definition) (local : Definition → Definition)
         (scope : List ℕ → Option Definition) (less more : Limits) (n : ℕ) (around : Around)
         (f : Forest) → less.calls ≤ more.calls → less.tokens ≤ more.tokens →
-        too_large rules world local scope less n around f ≡ None →
-        too_large rules world local scope more n around f ≡ None }
+        too_large dialect world local scope less n around f ≡ None →
+        too_large dialect world local scope more n around f ≡ None }
 {}
 
 /// Whether a call makes too much depends on what was looked up until then, and on nothing else
 /// outside of all lists.
 pub fn refusals_depend_on_lookups_so_far()
-    ensures { (rules : ScopeRules) (world : World Definition) (local : Definition → Definition)
+    ensures { (dialect : Dialect) (world : World Definition) (local : Definition → Definition)
         (scope others : List ℕ → Option Definition) (limits : Limits) (n : ℕ) (around : Around)
         (f : Forest) (finds : List (List ℕ × Option Definition)) →
-        too_large rules world local scope limits n around f ≡ Some finds →
+        too_large dialect world local scope limits n around f ≡ Some finds →
         All (λ find. others find.0 ≡ find.1) finds →
-        too_large rules world local others limits n around f ≡ Some finds }
+        too_large dialect world local others limits n around f ≡ Some finds }
 {}

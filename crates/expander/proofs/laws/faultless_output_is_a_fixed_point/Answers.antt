@@ -9,4 +9,4 @@ returns c =
       back = c.printed_text_reads_back.ensures.back;
       again = c.printed_text_reads_back.ensures.again;
     } in
-    λ grammar edition depth initial text m is none. fixed_meaning laws grammar edition depth initial (text_reading text) m is none
+    λ grammar edition dialect depth initial text m is none. fixed_meaning laws grammar edition dialect depth initial (text_reading text) m is none

@@ -20,8 +20,8 @@ returns-clause-front c =
       written = c.tokens_are_written.ensures;
     } in
     let laws : TurnLaws = record { rules = rules; order = order; equal = c.equal_pieces.ensures } in
-    λ grammar edition depth text other f g ones twos more_ones more_twos one two read read_too first second same.
-    fronts_do_not_count laws grammar edition depth text other f g ones twos more_ones more_twos one two read read_too first second same
+    λ grammar edition dialect depth text other f g ones twos more_ones more_twos one two read read_too first second same.
+    fronts_do_not_count laws grammar edition dialect depth text other f g ones twos more_ones more_twos one two read read_too first second same
 
 pub returns-clause-behind : goal.returns-clause-behind
 returns-clause-behind c =
@@ -39,5 +39,5 @@ returns-clause-behind c =
       written = c.tokens_are_written.ensures;
     } in
     let laws : TurnLaws = record { rules = rules; order = order; equal = c.equal_pieces.ensures } in
-    λ grammar edition depth text other f g ones twos more_ones more_twos one two read read_too first second same.
-    all_is_behind laws grammar edition depth text other f g ones twos more_ones more_twos one two read read_too first second same
+    λ grammar edition dialect depth text other f g ones twos more_ones more_twos one two read read_too first second same.
+    all_is_behind laws grammar edition dialect depth text other f g ones twos more_ones more_twos one two read read_too first second same

@@ -29,8 +29,8 @@ returns-clause-counted c =
       positive = c.token_lengths.ensures.positive;
       whole = c.token_lengths.ensures.whole;
     } in
-    λ grammar edition depth text other f g one two read read_too same.
-    c.equal_pieces_are_cache_hits.ensures.counted grammar edition depth text other f g one two read read_too
+    λ grammar edition dialect depth text other f g one two read read_too same.
+    c.equal_pieces_are_cache_hits.ensures.counted grammar edition dialect depth text other f g one two read read_too
     (same_pieces_by_tokens laws text other f g one two read read_too same)
 
 pub returns-clause-replied : goal.returns-clause-replied
@@ -41,6 +41,6 @@ returns-clause-replied c =
       positive = c.token_lengths.ensures.positive;
       whole = c.token_lengths.ensures.whole;
     } in
-    λ grammar edition depth text other f g reply one two read read_too same.
-    c.equal_pieces_are_cache_hits.ensures.replied grammar edition depth text other f g reply one two read read_too
+    λ grammar edition dialect depth text other f g reply one two read read_too same.
+    c.equal_pieces_are_cache_hits.ensures.replied grammar edition dialect depth text other f g reply one two read read_too
     (same_pieces_by_tokens laws text other f g one two read read_too same)

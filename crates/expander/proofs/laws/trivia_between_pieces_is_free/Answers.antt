@@ -42,8 +42,8 @@ returns-clause-counted c =
       same_tree = c.parts_at_other_places.ensures.relative;
       at_first = c.parts_at_other_places.ensures.first;
     } in
-    λ grammar edition depth text other f g one two read read_too words.
-    c.equal_pieces_are_cache_hits.ensures.counted grammar edition depth text other f g one two read read_too
+    λ grammar edition dialect depth text other f g one two read read_too words.
+    c.equal_pieces_are_cache_hits.ensures.counted grammar edition dialect depth text other f g one two read read_too
     (same_words laws text other f g one read read_too words)
 
 pub returns-clause-replied : goal.returns-clause-replied
@@ -60,6 +60,6 @@ returns-clause-replied c =
       same_tree = c.parts_at_other_places.ensures.relative;
       at_first = c.parts_at_other_places.ensures.first;
     } in
-    λ grammar edition depth text other f reply one two read words.
+    λ grammar edition dialect depth text other f reply one two read words.
     let is = other_is_read laws text other f one read words in
-    c.equal_pieces_are_cache_hits.ensures.replied grammar edition depth text other f is.0 reply one two read is.1 is.2
+    c.equal_pieces_are_cache_hits.ensures.replied grammar edition dialect depth text other f is.0 reply one two read is.1 is.2

@@ -20,8 +20,8 @@ returns-clause-piece c =
       written = c.tokens_are_written.ensures;
     } in
     let laws : TurnLaws = record { rules = rules; order = order; equal = c.equal_pieces.ensures } in
-    λ grammar edition depth text other f g p q ones twos more_ones more_twos one two read read_too first second same finds.
-    piece_does_not_count laws grammar edition depth text other f g p q ones twos more_ones more_twos one two read read_too first second same finds
+    λ grammar edition dialect depth text other f g p q ones twos more_ones more_twos one two read read_too first second same finds.
+    piece_does_not_count laws grammar edition dialect depth text other f g p q ones twos more_ones more_twos one two read read_too first second same finds
 
 pub returns-clause-others : goal.returns-clause-others
 returns-clause-others c =
@@ -39,8 +39,8 @@ returns-clause-others c =
       written = c.tokens_are_written.ensures;
     } in
     let laws : TurnLaws = record { rules = rules; order = order; equal = c.equal_pieces.ensures } in
-    λ grammar edition depth text other f g p q ones twos more_ones more_twos one two read read_too first second same finds.
-    others_count laws grammar edition depth text other f g p q ones twos more_ones more_twos one two read read_too first second same finds
+    λ grammar edition dialect depth text other f g p q ones twos more_ones more_twos one two read read_too first second same finds.
+    others_count laws grammar edition dialect depth text other f g p q ones twos more_ones more_twos one two read read_too first second same finds
 
 pub returns-clause-replied : goal.returns-clause-replied
 returns-clause-replied c =
@@ -58,5 +58,5 @@ returns-clause-replied c =
       written = c.tokens_are_written.ensures;
     } in
     let laws : TurnLaws = record { rules = rules; order = order; equal = c.equal_pieces.ensures } in
-    λ grammar edition depth text other f g p q ones twos more_ones more_twos e one two read read_too first second same finds h.
-    others_replied laws grammar edition depth text other f g p q ones twos more_ones more_twos one two read read_too first second same finds e h
+    λ grammar edition dialect depth text other f g p q ones twos more_ones more_twos e one two read read_too first second same finds h.
+    others_replied laws grammar edition dialect depth text other f g p q ones twos more_ones more_twos one two read read_too first second same finds e h

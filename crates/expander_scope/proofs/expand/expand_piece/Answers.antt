@@ -1,7 +1,6 @@
 use Rattle.std.proofs.Common.{[], ap, map, ◌∙◌}
 use Rattle.expander_model.specs.Held.{numbered_world}
 use Rattle.expander_model.specs.World.{world}
-use Rattle.expander_model.specs.declared.scope_rules.ScopeRules.TheVariants.{TopLevel}
 use Rattle.expander_scope.specs.Outcomes.{placed_of}
 use Rattle.expander_scope.specs.ScopeTable.{scope_in}
 use Rattle.expander_scope.proofs.CallResultLemmas.{quiet_parts}
@@ -17,7 +16,7 @@ returns-clause-outcome g c =
 pub returns-then-quiet-clause-outcome : goal.returns-then-quiet-clause-outcome
 returns-then-quiet-clause-outcome g c =
     c.unchanged.ensures c.args.tree.now.inner
-    ∙ quiet_parts (numbered_world (world (g.G.FragmentGrammar.answer c.args.env.now.grammar.now) c.args.env.now.scope.now.edition)) (scope_in c.args.env.now.scope.now) c.args.env.now.depth c.args.tree.now.inner
-    (quiet_scoped TopLevel (numbered_world (world (g.G.FragmentGrammar.answer c.args.env.now.grammar.now) c.args.env.now.scope.now.edition)) c.args.env.now.depth c.args.tree.now.inner (scope_in c.args.env.now.scope.now)
+    ∙ quiet_parts (numbered_world (world (g.G.FragmentGrammar.answer c.args.env.now.grammar.now) c.args.env.now.scope.now.edition c.args.env.now.dialect)) (scope_in c.args.env.now.scope.now) c.args.env.now.depth c.args.tree.now.inner
+    (quiet_scoped c.args.env.now.dialect (numbered_world (world (g.G.FragmentGrammar.answer c.args.env.now.grammar.now) c.args.env.now.scope.now.edition c.args.env.now.dialect)) c.args.env.now.depth c.args.tree.now.inner (scope_in c.args.env.now.scope.now)
     (rw c.iter.ensures at (c.in_ok-quiet.ensures.words c.if-quiet.true))
     (rw c.iter.ensures at (c.in_ok-quiet.ensures.calls c.if-quiet.true)))

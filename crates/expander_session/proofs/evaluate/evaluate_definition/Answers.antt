@@ -23,11 +23,11 @@ returns-in_err-known-clause-cause c = λ trees have has e.
     c.in_err-known.ensures.cause c.args.memory.now.given (trees_of c.args.memory.now) trees have has (handed c.from_residual.result _ c.from_residual.ensures.1 e)
 
 pub returns-clause-taken : goal.returns-clause-taken
-returns-clause-taken c = λ grammar depth piece law have start_is tree_is before trees done has.
+returns-clause-taken c = λ grammar dialect depth piece law have start_is tree_is before trees done has.
     let k : MacroDef = c.in_ok-known.known.value in
     let same : c.as_ref.result.now ≡ k = search rules in
     let ed = c.args.now.now.scope.edition in
-    one_definition grammar ed depth c.args.memory.now piece c.args.now.now _ k (c.in_ok-known.ensures.tree ∙ tree_is)
+    one_definition grammar ed dialect depth c.args.memory.now piece c.args.now.now _ k (c.in_ok-known.ensures.tree ∙ tree_is)
     (ap (λ (t : Top). is_some (definition_of t.inner)) (sym tree_is) ∙ c.requires.definition)
     (ap (λ (t : Top). numbers_in c.number.new.now.by_tree t.inner) (sym tree_is) ∙ c.in_ok-known.ensures.number)
     c.in_ok-known.ensures.grows

@@ -34,11 +34,11 @@ returns-clause-links c = λ h. none_linked (plain_tops c.args.now.now.taken.plai
     (definition_tops c.number.new.now.definitions.items) c.args.now.now.taken.links.items h
 
 pub returns-clause-taken : goal.returns-clause-taken
-returns-clause-taken c = λ grammar depth before trees done has.
+returns-clause-taken c = λ grammar dialect depth before trees done has.
     let piece : Forest = import_piece c.args.import.now in
     let k : MacroDef = c.in_ok-known.known.value in
     let tree_is : c.in_ok-tree.tree.value ≡ own_top (relative piece) = search rules in
-    one_import grammar c.args.now.now.scope.edition depth c.args.memory.now piece c.args.now.now _ k (c.in_ok-known.ensures.tree ∙ tree_is)
+    one_import grammar c.args.now.now.scope.edition dialect depth c.args.memory.now piece c.args.now.now _ k (c.in_ok-known.ensures.tree ∙ tree_is)
     c.requires.import.definition
     (ap (λ (t : Top). numbers_in c.number.new.now.by_tree t.inner) (sym tree_is) ∙ c.in_ok-known.ensures.number)
     c.in_ok-known.ensures.grows

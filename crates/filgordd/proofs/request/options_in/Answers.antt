@@ -8,9 +8,11 @@ pub returns : goal.returns
 returns c = IfSome_then c.options_of.result c.options_of.ensures (λ options h. record {
   grammar = c.in_ok-grammar.grammar.now;
   edition = c.in_ok-edition.edition.now;
+  scope = c.in_ok-scope.scope.now;
   depth = c.in_ok-depth.depth.now;
   has_grammar = value_is (λ s. s.now) (found_of c.args.matches.now) (codes "grammar") c.get_str.result c.in_ok-grammar.grammar c.get_str.ensures c.in_ok-grammar.was;
   has_edition = value_is (λ s. s.now) (found_of c.args.matches.now) (codes "edition") c.get_str-2.result c.in_ok-edition.edition c.get_str-2.ensures c.in_ok-edition.was;
-  has_depth = value_is (λ s. s.now) (found_of c.args.matches.now) (codes "depth") c.get_str-3.result c.in_ok-depth.depth c.get_str-3.ensures c.in_ok-depth.was;
+  has_scope = value_is (λ s. s.now) (found_of c.args.matches.now) (codes "scope") c.get_str-3.result c.in_ok-scope.scope c.get_str-3.ensures c.in_ok-scope.was;
+  has_depth = value_is (λ s. s.now) (found_of c.args.matches.now) (codes "depth") c.get_str-4.result c.in_ok-depth.depth c.get_str-4.ensures c.in_ok-depth.was;
   chosen = h;
 })

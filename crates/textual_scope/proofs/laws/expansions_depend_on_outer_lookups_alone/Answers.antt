@@ -2,4 +2,4 @@ use Rattle.textual_scope.proofs.AgreementLemmas.{agree_scoped}
 use Rattle.textual_scope.proofs.laws.expansions_depend_on_outer_lookups_alone.Goals as goal
 
 pub returns : goal.returns
-returns c = λ rules world local scope others depth around f h. agree_scoped rules world local scope others depth around f h
+returns c = λ dialect world local scope others depth around f h. agree_scoped dialect world local scope others depth around f h

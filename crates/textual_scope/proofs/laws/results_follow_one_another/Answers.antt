@@ -11,4 +11,4 @@ pub returns-clause-after : goal.returns-clause-after
 returns-clause-after c = λ a around. and_nothing a around
 
 pub returns-clause-lists : goal.returns-clause-lists
-returns-clause-lists c = λ rules world local scope search deeper around front back. parts-append rules world local scope search deeper around front back
+returns-clause-lists c = λ dialect world local scope search deeper around front back. parts-append dialect world local scope search deeper around front back

@@ -5,4 +5,4 @@ pub returns-clause-lists : goal.returns-clause-lists
 returns-clause-lists c = λ world local scope depth standing outer f. top_level world local scope depth standing outer f
 
 pub returns-clause-texts : goal.returns-clause-texts
-returns-clause-texts c = λ layers depth initial text. top_level_meaning layers depth initial text
+returns-clause-texts c = λ layers depth initial text is. top_level_meaning layers depth is initial text

@@ -44,7 +44,7 @@ returns-in_err-expansion-clause-cause g c =
     if_handed (HasCause (layers_of g.G.FragmentGrammar.answer c.args.self.now) c.args.self.now) c.from_residual-in_err-expansion.result c.in_err-expansion.field-0.0
     c.from_residual-in_err-expansion.ensures.1
     (cause_in_pieces c.text-text.result.now c.in-Pieces.pieces c.in-Pieces.sources (rw c.in-Pieces.is at c.in_ok-fault.ensures.read) order c.text-text.utf8 c.as_slice-pieces.result.now c.as_slice-pieces.ensures.value
-    c.equal_pieces.ensures g.G.FragmentGrammar.answer c.args.self.now c.self.inside.text c.self.inside.grammar c.self.inside.edition c.self.inside.depth c.self.inside.prelude c.self.inside.memory
+    c.equal_pieces.ensures g.G.FragmentGrammar.answer c.args.self.now c.self.inside.text c.self.inside.grammar c.self.inside.edition c.self.inside.dialect c.self.inside.depth c.self.inside.prelude c.self.inside.memory
     c.self.view_is c.text-text.ensures c.in_err-expansion.field-0.0 (λ e. c.in_err-expansion.ensures.tokens (ap Err e)) (λ e. c.in_err-expansion.ensures.numbers (ap Err e)))
 
 pub returns-clause-reply : goal.returns-clause-reply
@@ -64,5 +64,5 @@ returns-clause-reply g c =
     } in
     let laws : TurnLaws = record { rules = rules; order = order; equal = c.equal_pieces.ensures } in
     replies_in_pieces c.text-text.result.now c.in-Pieces.pieces c.in-Pieces.sources (rw c.in-Pieces.is at c.in_ok-fault.ensures.read) order c.text-text.utf8 c.as_slice-pieces.result.now c.as_slice-pieces.ensures.value
-    laws g.G.FragmentGrammar.answer c.args.self.now c.self.inside.text c.self.inside.grammar c.self.inside.edition c.self.inside.depth c.self.inside.prelude c.in_ok-expansion.ensures.stands
+    laws g.G.FragmentGrammar.answer c.args.self.now c.self.inside.text c.self.inside.grammar c.self.inside.edition c.self.inside.dialect c.self.inside.depth c.self.inside.prelude c.in_ok-expansion.ensures.stands
     c.self.inside.memory c.self.view_is c.text-text.ensures c.self.invariant.1 c.in_ok-expansion.expansion c.in_ok-expansion.memory c.in_ok-expansion.ensures.taken

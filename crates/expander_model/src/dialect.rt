@@ -1,0 +1,47 @@
+//! The options of what a text means.
+ghost use Rattle.std.specs.Prelude.{◌≡◌};
+ghost use Rattle.expander_model.specs.Dialects.{dialect_by, rust, top_level};
+
+use crate::scope_rules::ScopeRules;
+
+/// The options of what a text means.
+#[derive(Clone, Copy, Debug, PartialEq, Eq)]
+pub struct Dialect {
+    /// Which definitions a name can find.
+    pub scope: ScopeRules,
+    /// Whether the `;` behind a call that stands alone in a list of items goes with the call.
+    pub items: bool,
+}
+
+impl Dialect {
+    /// No option is set: names find pieces of texts alone, and each `;` stays.
+    pub fn top_level() -> Dialect
+        ensures { result ≡ top_level }
+    {
+        Dialect {
+            scope: ScopeRules::TopLevel,
+            items: false,
+        }
+    }
+
+    /// Rust's rules: names find definitions of lists too, and the `;` of an item's call goes with
+    /// it.
+    pub fn rust() -> Dialect
+        ensures { result ≡ rust }
+    {
+        Dialect {
+            scope: ScopeRules::Rust,
+            items: true,
+        }
+    }
+
+    /// The one of these two for scope rules.
+    pub fn by(scope: ScopeRules) -> Dialect
+        ensures { result ≡ dialect_by scope }
+    {
+        match scope {
+            ScopeRules::TopLevel => Dialect::top_level(),
+            ScopeRules::Rust => Dialect::rust(),
+        }
+    }
+}

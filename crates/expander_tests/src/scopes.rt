@@ -1,0 +1,126 @@
+//! Sessions by both rules of scopes: what they print, and what an edit makes them expand anew.
+use crate::opened::found;
+use expander::{Dialect, Edition, Expansion, ScopeRules, Session, SmallGrammar};
+use std::alloc::Global;
+use std::test::Fail;
+
+// Rules of scopes and a text; what is printed, and how many faults there are.
+const ROWS: [(ScopeRules, &str, &str, usize); 9] = [
+    (
+        ScopeRules::TopLevel,
+        "fn f() { macro_rules! m { () => { 1 } } m!{} }",
+        "fn f ( ) { macro_rules ! m { ( ) => { 1 } } m ! { } }\n",
+        1,
+    ),
+    (
+        ScopeRules::Rust,
+        "fn f() { macro_rules! m { () => { 1 } } m!{} }",
+        "fn f ( ) { 1 }\n",
+        0,
+    ),
+    (
+        ScopeRules::Rust,
+        "fn f() { macro_rules! m { () => { 1 } } m!(); \
+         { macro_rules! m { () => { 2 } } m!(); } m!(); }",
+        "fn f ( ) { 1 ; { 2 ; } 1 ; }\n",
+        0,
+    ),
+    (
+        ScopeRules::Rust,
+        "macro_rules! m { () => { 0 } } fn f() { m!{} macro_rules! m { () => { 1 } } m!{} } m!{}",
+        "fn f ( ) { 0 1 }\n0\n",
+        0,
+    ),
+    (
+        ScopeRules::Rust,
+        "macro_rules! k { () => { j!{} $crate::j!{} } } macro_rules! j { () => { 1 } } \
+         fn f() { macro_rules! j { () => { 2 } } k!{} }",
+        "fn f ( ) { 2 1 }\n",
+        0,
+    ),
+    (
+        ScopeRules::Rust,
+        "macro_rules! mk { ($n:ident $e:tt) => { macro_rules! $n { () => { $e } } } } \
+         fn f() { mk!{a 1} { mk!{a 2} a!{} } a!{} }",
+        "fn f ( ) { { 2 } 1 }\n",
+        0,
+    ),
+    (
+        ScopeRules::Rust,
+        "u!({ macro_rules! m { () => { 1 } } m!{} });",
+        "u ! ( { macro_rules ! m { ( ) => { 1 } } 1 } ) ;\n",
+        1,
+    ),
+    (
+        ScopeRules::Rust,
+        "mod a { macro_rules! m { () => { 1 } } mod b { m!{} } } m!{}",
+        "mod a { mod b { 1 } }\nm ! { }\n",
+        0,
+    ),
+    (
+        ScopeRules::Rust,
+        "({ macro_rules! m { () => { 1 } } m!{} } (macro_rules! m { () => { 2 } } m!{}) \
+         [macro_rules! m { () => { 3 } } m!{}] m!{});",
+        "( { 1 } ( 2 ) [ 3 ] m ! { } ) ;\n",
+        0,
+    ),
+];
+
+// A session by these rules over a text that is short.
+fn scoped(alloc: Global, text: &str, scope: ScopeRules) -> Result<Session<SmallGrammar>, Fail> {
+    if text.len() >= 1000 {
+        return Err(Fail::new("a text is long"));
+    }
+    let (edition, dialect) = (
+        Edition::Edition2024,
+        Dialect {
+            scope,
+            items: false,
+        },
+    );
+    Ok(Session::with_dialect(alloc, text, SmallGrammar, edition, dialect, 128)?)
+}
+
+#[test]
+fn definitions_in_lists(rt: HostRuntime) -> Result<(), Fail> {
+    for (scope, text, want, faults) in &ROWS {
+        let given = found(&mut scoped(rt.alloc(), text, *scope)?)?;
+        assert!(rt; given.printed() == *want, "{text}: {}", given.printed());
+        assert!(rt; given.faults().len() == *faults, "{text}");
+    }
+    Ok(())
+}
+
+// The expansion once this text is in the place of the first such digit.
+fn expanded_with(
+    session: &mut Session<SmallGrammar>,
+    digit: char,
+    text: &str,
+) -> Result<Expansion, Fail> {
+    let Some(at) = session.text().find(digit) else {
+        return Err(Fail::new("there is no such digit"));
+    };
+    let end = at + 1;
+    if !(session.is_boundary(at) && session.is_boundary(end) && session.fits(at, end, text.len())) {
+        return Err(Fail::new("it does not fit"));
+    }
+    session.edit(at, end, text)?;
+    found(session)
+}
+
+// A name that a list answers is looked up nowhere else: of two calls of one name only that which
+// finds a changed definition is expanded anew.
+#[test]
+fn own_names_are_no_look_ups(rt: HostRuntime) -> Result<(), Fail> {
+    let text =
+        "macro_rules! m { () => { 0 } } fn f() { macro_rules! m { () => { 1 } } m!{} } \
+         fn g() { m!{} }";
+    let mut session = scoped(rt.alloc(), text, ScopeRules::Rust)?;
+    let first = found(&mut session)?;
+    assert!(rt; first.printed() == "fn f ( ) { 1 }\nfn g ( ) { 0 }\n" && first.expanded() == 2);
+    let inside = expanded_with(&mut session, '1', "2")?;
+    assert!(rt; inside.printed() == "fn f ( ) { 2 }\nfn g ( ) { 0 }\n" && inside.expanded() == 1);
+    let outside = expanded_with(&mut session, '0', "3")?;
+    assert!(rt; outside.printed() == "fn f ( ) { 2 }\nfn g ( ) { 3 }\n" && outside.expanded() == 1);
+    Ok(())
+}
