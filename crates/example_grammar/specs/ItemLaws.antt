@@ -13,7 +13,8 @@ use Rattle.example_grammar.specs.Items.{is_empty, with_items}
 
 -- trees without their spans have as many steps
 pub steps-shape : (f : Forest) → steps (shape f) ≡ steps f
-steps-shape f = ap length (walk-map_spans (λ s. no_span) f) ∙ length-map (walk f) (step_with (λ s. no_span))
+steps-shape f = ap length (walk-map_spans (λ s. no_span) f) ∙ length-map (walk f)
+    (step_with (λ s. no_span))
 
 -- and are as empty
 pub is_empty-shape : (f : Forest) → is_empty (shape f) ≡ is_empty f
@@ -22,7 +23,8 @@ is_empty-shape (leaf l rest) = refl
 is_empty-shape (group d inner rest) = refl
 
 module _ (inner : PrefixEntryPoint → Forest → Prefix) where
-  pub with_items-within : ((entry : PrefixEntryPoint) (f : Forest) → (inner entry (shape f)).tokens ≤ steps f) →
+  pub with_items-within : ((entry : PrefixEntryPoint) (f : Forest)
+      → (inner entry (shape f)).tokens ≤ steps f) →
       (entry : PrefixEntryPoint) (f : Forest) → (with_items inner entry (shape f)).tokens ≤ steps f
   with_items-within within Item f = (let e = steps-shape f in omega (arith, e))
   with_items-within within entry f = within entry f
@@ -32,9 +34,11 @@ module _ (inner : PrefixEntryPoint → Forest → Prefix) where
   some-takes (leaf l rest) e = omega arith
   some-takes (group d inside rest) e = omega arith
 
-  pub with_items-takes : ((entry : PrefixEntryPoint) (f : Forest) → entry ≢ Vis → (inner entry (shape f)).fault ≡ false →
+  pub with_items-takes : ((entry : PrefixEntryPoint) (f : Forest) → entry ≢ Vis
+      → (inner entry (shape f)).fault ≡ false →
       1 ≤ (inner entry (shape f)).tokens) → (entry : PrefixEntryPoint) (f : Forest) → entry ≢ Vis →
-      (with_items inner entry (shape f)).fault ≡ false → 1 ≤ (with_items inner entry (shape f)).tokens
+      (with_items inner entry (shape f)).fault ≡ false
+          → 1 ≤ (with_items inner entry (shape f)).tokens
   with_items-takes takes Item f other e = some-takes f e
   with_items-takes takes entry f other e = takes entry f other e
 
@@ -48,8 +52,11 @@ as_empty true (group d inside rest) e = absurd (let t = e.0 refl in cc)
 as_empty false (group d inside rest) e = refl
 
 -- the answer for an item
-pub item-is : (inner : PrefixEntryPoint → Forest → Prefix) (entry : PrefixEntryPoint) (f : Forest) (n : ℕ) (b : Bool) → entry ≡ Item →
-    n ≡ steps f → (IsTrue b ↔ (f ≡ empty)) → record { tokens = n; fault = b } ≡ with_items inner entry (shape f)
+pub item-is : (inner : PrefixEntryPoint → Forest → Prefix) (entry : PrefixEntryPoint) (f : Forest)
+    (n : ℕ) (b : Bool) → entry ≡ Item →
+    n ≡ steps f → (IsTrue b ↔ (f ≡ empty))
+    → record { tokens = n; fault = b } ≡ with_items inner entry (shape f)
 item-is inner entry f n b item count none = rw item
     (ap (λ n. record { tokens = n; fault = b }) (count ∙ sym (steps-shape f))
-    ∙ ap (λ b. record { tokens = steps (shape f); fault = b }) (as_empty b f none ∙ sym (is_empty-shape f)))
+    ∙ ap (λ b. record { tokens = steps (shape f); fault = b })
+        (as_empty b f none ∙ sym (is_empty-shape f)))

@@ -30,7 +30,8 @@ placed_tokens text = placed_from 0 text (tokens_of (chars text))
 
 -- the tokens from a piece's first to its last, trivia too, with piece-relative offsets
 abbrev pub written_in : List ℕ → Forest → List PlacedToken
-written_in text p = map (counted_from (first_start p)) (filter (is_between (first_start p) (last_end p)) (placed_tokens text))
+written_in text p = map (counted_from (first_start p))
+    (filter (is_between (first_start p) (last_end p)) (placed_tokens text))
 
 -- white space, and a whole comment that is no doc comment
 abbrev pub is_blank_kind : TokenKind → Bool
@@ -57,4 +58,5 @@ pub record BeginsWith (word ts rest : List PlacedToken) : Type 0 where
 -- the tokens of these words in order, with only trivia before, between and after them
 abbrev pub AreWords : List (List PlacedToken) → List PlacedToken → Type 0
 AreWords [] ts = AreBlank ts
-AreWords (word ∷ words) ts = (rest : List PlacedToken) × BeginsWith word ts rest × AreWords words rest
+AreWords (word ∷ words) ts = (rest : List PlacedToken) × BeginsWith word ts rest
+    × AreWords words rest

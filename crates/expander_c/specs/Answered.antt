@@ -41,19 +41,22 @@ abbrev pub told_unread : ReadFault → ToldFault
 told_unread f = record { kind = read_kind_number f.kind; range = byte_range f.range }
 
 abbrev pub counted : Expanded → Counts
-counted e = record { printed = length e.printed; tokens = length e.origins; faults = length e.faults; expanded = e.expanded }
+counted e = record { printed = length e.printed; tokens = length e.origins;
+    faults = length e.faults; expanded = e.expanded }
 
 -- ---- answers
 
 -- what is told of an expansion, with what it is written to before and after; or that the last
 -- answer is none, and then nothing is written
-abbrev pub OfExpansion : {A : Type 0} → (Expanded → A → A → Code → Type 0) → A → A → Answer → Code → Type 0
+abbrev pub OfExpansion : {A : Type 0} → (Expanded → A → A → Code → Type 0) → A → A → Answer → Code
+    → Type 0
 OfExpansion tells old new (last.Read e) c = tells e old new c
 OfExpansion tells old new _ c = (c ≡ code.Nothing) × (new ≡ old)
 
 -- a list is copied to the beginning of a room, if there is enough
 abbrev pub Copied : {A : Type 0} → List A → List A → List A → Code → Type 0
-Copied items old new code.Done = (length items ≤ length old) × (new ≡ items ++ drop (length items) old)
+Copied items old new code.Done = (length items ≤ length old)
+    × (new ≡ items ++ drop (length items) old)
 Copied items old new code.Room = (length old < length items) × (new ≡ old)
 Copied items old new _ = ⊥
 
@@ -86,7 +89,8 @@ OriginsTold e = Copied (map byte_range e.origins)
 -- the number of the text that each printed token comes from is copied, if there is enough room
 abbrev pub SourcesTold : Expanded → List ℕ → List ℕ → Code → Type 0
 SourcesTold e old new code.Done =
-    (length e.origins ≤ length old) × (new ≡ take (length e.origins) e.texts ++ drop (length e.origins) old)
+    (length e.origins ≤ length old)
+    × (new ≡ take (length e.origins) e.texts ++ drop (length e.origins) old)
 SourcesTold e old new code.Room = (length old < length e.origins) × (new ≡ old)
 SourcesTold e old new _ = ⊥
 

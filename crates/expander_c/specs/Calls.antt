@@ -112,7 +112,8 @@ BoundaryTold text at _ = ⊥
 abbrev pub FitTold : List ℕ → ℕ → ℕ → ℕ → Code → Type 0
 FitTold text start stop len code.Done = IsRange text start stop × IsShort text start stop len
 FitTold text start stop len code.Range = IsRange text start stop → ⊥
-FitTold text start stop len code.Length = IsRange text start stop × (IsShort text start stop len → ⊥)
+FitTold text start stop len code.Length =
+    IsRange text start stop × (IsShort text start stop len → ⊥)
 FitTold text start stop len _ = ⊥
 
 -- an edit may be made
@@ -128,8 +129,10 @@ abbrev pub EditTold : ℕ → ℕ → List ℕ → Live → Live → Code → Ty
 EditTold start stop bytes old new code.Done =
     CanEdit old.session.text start stop bytes
     × (new ≡ record old { session = record old.session { text = edited old.session.text start stop bytes } })
-EditTold start stop bytes old new code.Range = (IsRange old.session.text start stop → ⊥) × (new ≡ old)
-EditTold start stop bytes old new code.Length = (IsShort old.session.text start stop (length bytes) → ⊥) × (new ≡ old)
+EditTold start stop bytes old new code.Range =
+    (IsRange old.session.text start stop → ⊥) × (new ≡ old)
+EditTold start stop bytes old new code.Length =
+    (IsShort old.session.text start stop (length bytes) → ⊥) × (new ≡ old)
 EditTold start stop bytes old new code.Boundary =
     (IsCharBoundary old.session.text start × IsCharBoundary old.session.text stop → ⊥) × (new ≡ old)
 EditTold start stop bytes old new code.Utf8 = (IsUtf8 bytes → ⊥) × (new ≡ old)
@@ -147,16 +150,20 @@ layers_of live =
 abbrev pub Answers : Live → Live → Answer → Type 0
 Answers old new last.Nothing = ⊥
 Answers old new (last.Read e) = Replies (layers_of old) old.session new.session (reply.Read e)
-Answers old new (last.Unread fault) = Replies (layers_of old) old.session new.session (reply.Unread fault)
+Answers old new (last.Unread fault) = Replies (layers_of old) old.session new.session
+    (reply.Unread fault)
 
 abbrev pub is_read : Answer → Bool
 is_read (last.Read e) = true
 is_read _ = false
 
--- an expansion: the session's reply, while its sources stay, or why there is none, and then nothing changed
+-- an expansion: the session's reply, while its sources stay, or why there is none, and then nothing
+-- changed
 abbrev pub ExpandTold : Live → Live → Code → Type 0
-ExpandTold old new code.Done = Answers old new new.answer × (is_read new.answer ≡ true) × (new.sources ≡ old.sources)
-ExpandTold old new code.Unread = Answers old new new.answer × (is_read new.answer ≡ false) × (new.sources ≡ old.sources)
+ExpandTold old new code.Done = Answers old new new.answer × (is_read new.answer ≡ true)
+    × (new.sources ≡ old.sources)
+ExpandTold old new code.Unread = Answers old new new.answer × (is_read new.answer ≡ false)
+    × (new.sources ≡ old.sources)
 ExpandTold old new code.Memory = new ≡ old
 ExpandTold old new code.Tokens = HasCause (layers_of old) old.session why.Tokens × (new ≡ old)
 ExpandTold old new code.Numbers = HasCause (layers_of old) old.session why.Numbers × (new ≡ old)
@@ -167,7 +174,8 @@ ExpandTold old new _ = ⊥
 -- the crate with this root and edition; without a root that of the session's text
 abbrev pub IsHome : List ℕ → ℕ → Option Home → Type 0
 IsHome root year None = root ≡ []
-IsHome root year (Some h) = (edition : Edition) × (edition_of year ≡ Some edition) × (home_named root edition ≡ Some h)
+IsHome root year (Some h) = (edition : Edition) × (edition_of year ≡ Some edition)
+    × (home_named root edition ≡ Some h)
 
 -- why there is none
 abbrev pub NoHome : List ℕ → ℕ → Code → Type 0
@@ -178,7 +186,8 @@ NoHome root year c = NoText root c
 
 -- what a text of such a crate is read as
 abbrev pub IsSource : ℕ → List ℕ → ℕ → List ℕ → SourceRead → Type 0
-IsSource number root year text r = (home : Option Home) × IsHome root year home × IsSourceOf number home text r
+IsSource number root year text r = (home : Option Home) × IsHome root year home
+    × IsSourceOf number home text r
 
 -- why it is not read
 abbrev pub NoSource : ℕ → List ℕ → ℕ → List ℕ → Code → Type 0
@@ -186,15 +195,19 @@ NoSource number root year text code.Source = number ≡ 0
 NoSource number root year text code.Tokens = HasTooMany (text_steps text)
 NoSource number root year text c = NoHome root year c ⊎ NoText text c
 
--- a source was added, and how many definitions it has is written; or why its text cannot be read is; or why neither, and then
--- nothing changed
-abbrev pub SourceAdded : ℕ → List ℕ → ℕ → List ℕ → SourceTold → SourceTold → Live → Live → Code → Type 0
+-- a source was added, and how many definitions it has is written; or why its text cannot be read
+-- is; or why neither, and then nothing changed
+abbrev pub SourceAdded : ℕ → List ℕ → ℕ → List ℕ → SourceTold → SourceTold → Live → Live → Code
+    → Type 0
 SourceAdded number root year text told_old told old new code.Done =
-    (s : Source) × IsSource number root year text (read.Read s) × (new ≡ record old { sources = with_source s old.sources })
+    (s : Source) × IsSource number root year text (read.Read s)
+    × (new ≡ record old { sources = with_source s old.sources })
     × (told ≡ record told_old { definitions = length s.items })
 SourceAdded number root year text told_old told old new code.Unread =
-    (f : ReadFault) × IsSource number root year text (read.Unread f) × (new ≡ old) × (told ≡ record told_old { fault = told_unread f })
-SourceAdded number root year text told_old told old new c = NoSource number root year text c × (new ≡ old) × (told ≡ told_old)
+    (f : ReadFault) × IsSource number root year text (read.Unread f) × (new ≡ old)
+    × (told ≡ record told_old { fault = told_unread f })
+SourceAdded number root year text told_old told old new c =
+    NoSource number root year text c × (new ≡ old) × (told ≡ told_old)
 
 -- the text is expanded after these definitions from now on; or why not, and then nothing changed
 abbrev pub PreludeTold : List Pick → Live → Live → Code → Type 0

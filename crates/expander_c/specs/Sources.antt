@@ -19,7 +19,8 @@ index_of n (s ∷ ss) = if nat_eq s.number n then 0 else suc (index_of n ss)
 
 -- the sources with one more, in the place of the one of its number if there is one
 abbrev pub with_source : Source → List Source → List Source
-with_source s ss = if nat_lt (index_of s.number ss) (length ss) then set ss (index_of s.number ss) s else ss ++ s ∷ []
+with_source s ss = if nat_lt (index_of s.number ss) (length ss)
+    then set ss (index_of s.number ss) s else ss ++ s ∷ []
 
 abbrev pub source_of : ℕ → List Source → Option Source
 source_of n ss = slice_get ss (index_of n ss)
@@ -41,7 +42,8 @@ open_pick home i = if is_open i then picked home i.piece ∷ [] else []
 -- what an index of a source stands for
 abbrev pub picked_by : Option Source → ℕ → List Forest
 picked_by None index = []
-picked_by (Some s) index = if nat_eq index every then flat_map (open_pick s.home) s.items else picked s.home (item_at s.items index).piece ∷ []
+picked_by (Some s) index = if nat_eq index every then flat_map (open_pick s.home) s.items
+    else picked s.home (item_at s.items index).piece ∷ []
 
 abbrev pub pieces_of : List Source → Pick → List Forest
 pieces_of sources pick = picked_by (source_of pick.source sources) pick.index
@@ -67,7 +69,8 @@ fault_code _ = code.Memory
 -- whether a source has this index
 abbrev pub index_code : Option Source → ℕ → Code
 index_code None index = code.Source
-index_code (Some s) index = if nat_eq index every then code.Done else if nat_lt index (length s.items) then code.Done else code.Index
+index_code (Some s) index = if nat_eq index every then code.Done
+    else if nat_lt index (length s.items) then code.Done else code.Index
 
 abbrev pub pick_code : List Source → Pick → Code
 pick_code sources pick = index_code (source_of pick.source sources) pick.index

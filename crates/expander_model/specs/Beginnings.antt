@@ -10,6 +10,8 @@ use Rattle.expander_model.specs.declared.call.Beginning.TheVariants as beginning
 -- then the leaf that it says, if it says one
 abbrev pub IsBeginning : Forest → Beginning → Type 0
 IsBeginning f (beginning.Call call) = call_at f ≡ Some call
-IsBeginning f (beginning.BehindColons call) = (call_at f ≡ None) × (call_behind_colons f ≡ Some call)
-IsBeginning f (beginning.Leaf l rest) = (call_at f ≡ None) × (call_behind_colons f ≡ None) × (f ≡ leaf (leaf_lent l) rest)
+IsBeginning f (beginning.BehindColons call) =
+    (call_at f ≡ None) × (call_behind_colons f ≡ Some call)
+IsBeginning f (beginning.Leaf l rest) = (call_at f ≡ None) × (call_behind_colons f ≡ None)
+    × (f ≡ leaf (leaf_lent l) rest)
 IsBeginning f beginning.Other = (call_at f ≡ None) × (call_behind_colons f ≡ None)

@@ -47,9 +47,11 @@ abbrev pub mark_leaf : Leaf → Marked → Marked
 mark_leaf (as_leaf.Ident name) (token (as_leaf.Punct bang) (inside brackets argument rest)) =
     if is_bang_group bang brackets then call bare name bang brackets argument rest
     else token (as_leaf.Ident name) (token (as_leaf.Punct bang) (inside brackets argument rest))
-mark_leaf (as_leaf.Punct first) (token (as_leaf.Punct second) (call bare name bang brackets argument rest)) =
+mark_leaf (as_leaf.Punct first)
+    (token (as_leaf.Punct second) (call bare name bang brackets argument rest)) =
     if is_colons first second then call (other first second) name bang brackets argument rest
-    else token (as_leaf.Punct first) (token (as_leaf.Punct second) (call bare name bang brackets argument rest))
+    else token (as_leaf.Punct first)
+        (token (as_leaf.Punct second) (call bare name bang brackets argument rest))
 mark_leaf (as_leaf.Ident crate) (call (other first second) name bang brackets argument rest) =
     if is_root crate then call (from_crate crate first second) name bang brackets argument rest
     else token (as_leaf.Ident crate) (call (other first second) name bang brackets argument rest)
@@ -67,7 +69,8 @@ key_behind root name = root ++ (codes "::" ++ name)
 
 -- what a call is looked up by: its name, or behind the root of another crate the name with the root
 abbrev pub key_of : Path → Ident → List ℕ
-key_of (from_crate root first second) name = if is_foreign root then key_behind root.sym name.sym else name.sym
+key_of (from_crate root first second) name =
+    if is_foreign root then key_behind root.sym name.sym else name.sym
 key_of _ name = name.sym
 
 -- a path's tokens before a forest
@@ -83,4 +86,5 @@ unmarked none = empty
 unmarked (token l m) = leaf l (unmarked m)
 unmarked (inside d a m) = group d (unmarked a) (unmarked m)
 unmarked (call path name bang d a m) =
-    in_front path (leaf (as_leaf.Ident name) (leaf (as_leaf.Punct bang) (group d (unmarked a) (unmarked m))))
+    in_front path (leaf (as_leaf.Ident name)
+    (leaf (as_leaf.Punct bang) (group d (unmarked a) (unmarked m))))

@@ -28,11 +28,14 @@ outcome_with f h o = record {
 }
 
 -- the second world is the first with f applied to each span and h to each definition
-pub record Changes {D E : Type 0} (f : Span → Span) (h : D → E) (one : World D) (two : World E) : Type 0 where
+pub record Changes {D E : Type 0} (f : Span → Span) (h : D → E) (one : World D)
+    (two : World E) : Type 0 where
   pub broken : (d : D) → two.broken (h d) ≡ one.broken d
-  pub fit : (d : D) (a : Forest) → two.fit (h d) (map_spans f a) ≡ option_map (map_spans f) (one.fit d a)
+  pub fit : (d : D) (a : Forest) → two.fit (h d) (map_spans f a)
+      ≡ option_map (map_spans f) (one.fit d a)
   pub bursts : (d : D) (a : Forest) → two.bursts (h d) (map_spans f a) ≡ one.bursts d a
 
 -- h is applied to what each name resolves to
-abbrev pub ScopeChange : {D E : Type 0} → (D → E) → (List ℕ → Option D) → (List ℕ → Option E) → Type 0
+abbrev pub ScopeChange : {D E : Type 0} → (D → E) → (List ℕ → Option D) → (List ℕ → Option E)
+    → Type 0
 ScopeChange h scope changed = (name : List ℕ) → changed name ≡ option_map h (scope name)

@@ -8,7 +8,8 @@ use Rattle.expander_model.specs.Pieces.{relative}
 -- the trees of those pieces that are definitions, with piece-relative spans
 abbrev pub definition_trees : List Forest → List Forest
 definition_trees [] = []
-definition_trees (p ∷ ps) = if is_some (definition_of (relative p)) then relative p ∷ definition_trees ps else definition_trees ps
+definition_trees (p ∷ ps) = if is_some (definition_of (relative p))
+    then relative p ∷ definition_trees ps else definition_trees ps
 
 -- the tree of a definition of a text, with piece-relative spans
 abbrev pub defining_tree : Member → Option Forest

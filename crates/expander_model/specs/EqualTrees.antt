@@ -11,4 +11,5 @@ same_top a b = of_tree.ghosts.eq a b
 
 -- two lists of trees are equal by `==` of trees, spans included
 abbrev pub same_forest : Forest → Forest → Bool
-same_forest f g = of_tree.ghosts.eq (record { delimiter = text_top; inner = f }) (record { delimiter = text_top; inner = g })
+same_forest f g = of_tree.ghosts.eq (record { delimiter = text_top; inner = f })
+    (record { delimiter = text_top; inner = g })

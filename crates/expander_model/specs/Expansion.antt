@@ -45,13 +45,15 @@ just outer steps = record { steps = placed outer steps; faults = []; finds = [];
 -- one result after another
 abbrev pub followed_by : {D : Type 0} → Outcome D → Outcome D → Outcome D
 followed_by a b =
-    record { steps = a.steps ++ b.steps; faults = a.faults ++ b.faults; finds = a.finds ++ b.finds; bursts = a.bursts || b.bursts }
+    record { steps = a.steps ++ b.steps; faults = a.faults ++ b.faults; finds = a.finds ++ b.finds;
+    bursts = a.bursts || b.bursts }
 
 -- a result in brackets
 abbrev pub grouped : {D : Type 0} → Option Span → Delimiter → Outcome D → Outcome D
 grouped outer d a =
     record a {
-      steps = placed outer (opens d.kind d.open_span ∷ []) ++ (a.steps ++ placed outer (closes d.kind d.close_span ∷ []));
+      steps = placed outer (opens d.kind d.open_span ∷ [])
+          ++ (a.steps ++ placed outer (closes d.kind d.close_span ∷ []));
     }
 
 abbrev pub faulted : {D : Type 0} → FaultKind → Span → Outcome D → Outcome D
@@ -78,7 +80,8 @@ abbrev pub stays : {D : Type 0} → FaultKind → Option Span → CallSite → O
 stays kind outer site = faulted kind (unwrap_or outer site.at) (just outer (walk site.whole))
 
 -- a result that fits is replaced by its own expansion; if none fits the call stays
-abbrev pub fitted : {D : Type 0} → (Option Span → Forest → Outcome D) → Option Span → CallSite → Option Forest → Outcome D
+abbrev pub fitted : {D : Type 0} → (Option Span → Forest → Outcome D) → Option Span → CallSite
+    → Option Forest → Outcome D
 fitted deeper outer site None = stays CannotExpand outer site
 fitted deeper outer site (Some result) = deeper (Some (unwrap_or outer site.at)) result
 
@@ -88,44 +91,56 @@ at_level world d None outer site = stays RecursionLimit outer site
 at_level world d (Some deeper) outer site =
     bursting (world.bursts d site.argument) (fitted deeper outer site (world.fit d site.argument))
 
-abbrev pub unbroken : {D : Type 0} → World D → D → Bool → Deeper D → Option Span → CallSite → Outcome D
+abbrev pub unbroken : {D : Type 0} → World D → D → Bool → Deeper D → Option Span → CallSite
+    → Outcome D
 unbroken world d true deeper outer site = stays BrokenDefinition outer site
 unbroken world d false deeper outer site = at_level world d deeper outer site
 
 -- a call whose name was looked up; `kept` is the call with only the calls in its group expanded
-abbrev pub looked_up : {D : Type 0} → World D → Option D → Deeper D → Option Span → CallSite → Outcome D → Outcome D
+abbrev pub looked_up : {D : Type 0} → World D → Option D → Deeper D → Option Span → CallSite
+    → Outcome D → Outcome D
 looked_up world None deeper outer site kept = kept
-looked_up world (Some d) deeper outer site kept = unbroken world d (world.broken d) deeper outer site
+looked_up world (Some d) deeper outer site kept =
+    unbroken world d (world.broken d) deeper outer site
 
 -- a call by what comes before its name: after another `::` it is none
-abbrev pub at_call : {D : Type 0} → World D → (List ℕ → Option D) → Deeper D → Option Span → Path → Ident → CallSite → Outcome D → Outcome D
+abbrev pub at_call : {D : Type 0} → World D → (List ℕ → Option D) → Deeper D → Option Span → Path
+    → Ident → CallSite → Outcome D → Outcome D
 at_call world scope deeper outer (other first second) name site kept = kept
 at_call world scope deeper outer path name site kept =
-    found (key_of path name) (scope (key_of path name)) (looked_up world (scope (key_of path name)) deeper outer site kept)
+    found (key_of path name) (scope (key_of path name))
+    (looked_up world (scope (key_of path name)) deeper outer site kept)
 
 -- a call's tokens before its group
 abbrev pub before_group : Path → Ident → Punct → Forest
-before_group path name bang = in_front path (leaf (as_leaf.Ident name) (leaf (as_leaf.Punct bang) empty))
+before_group path name bang = in_front path
+    (leaf (as_leaf.Ident name) (leaf (as_leaf.Punct bang) empty))
 
 abbrev pub whole_call : Path → Ident → Punct → Delimiter → Forest → Forest
 whole_call path name bang d argument =
     in_front path (leaf (as_leaf.Ident name) (leaf (as_leaf.Punct bang) (group d argument empty)))
 
 -- the expansion of a forest whose calls are marked, from left to right
-abbrev pub search_calls : {D : Type 0} → World D → (List ℕ → Option D) → Deeper D → Option Span → Marked → Outcome D
+abbrev pub search_calls : {D : Type 0} → World D → (List ℕ → Option D) → Deeper D → Option Span
+    → Marked → Outcome D
 search_calls world scope deeper outer none = just outer []
 search_calls world scope deeper outer (token l rest) =
     followed_by (just outer (at_leaf l ∷ [])) (search_calls world scope deeper outer rest)
 search_calls world scope deeper outer (inside d a rest) =
-    followed_by (grouped outer d (search_calls world scope deeper outer a)) (search_calls world scope deeper outer rest)
+    followed_by (grouped outer d (search_calls world scope deeper outer a))
+    (search_calls world scope deeper outer rest)
 search_calls world scope deeper outer (call path name bang d a rest) =
     followed_by
     (at_call world scope deeper outer path name
-    (record { at = name.span; whole = whole_call path name bang d (unmarked a); argument = unmarked a })
-    (followed_by (just outer (walk (before_group path name bang))) (grouped outer d (search_calls world scope deeper outer a))))
+    (record { at = name.span; whole = whole_call path name bang d (unmarked a);
+        argument = unmarked a })
+    (followed_by (just outer (walk (before_group path name bang)))
+        (grouped outer d (search_calls world scope deeper outer a))))
     (search_calls world scope deeper outer rest)
 
 -- the expansion of a forest with n levels left, under the name of an outermost call or none
-abbrev pub expansion : {D : Type 0} → World D → (List ℕ → Option D) → ℕ → Option Span → Forest → Outcome D
+abbrev pub expansion : {D : Type 0} → World D → (List ℕ → Option D) → ℕ → Option Span → Forest
+    → Outcome D
 expansion world scope zero outer f = search_calls world scope None outer (marked f)
-expansion world scope (suc n) outer f = search_calls world scope (Some (expansion world scope n)) outer (marked f)
+expansion world scope (suc n) outer f = search_calls world scope
+    (Some (expansion world scope n)) outer (marked f)

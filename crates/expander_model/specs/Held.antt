@@ -19,7 +19,8 @@ use Rattle.small_grammar.specs.Text.{same_text}
 abbrev pub AllSpans : (Span → Type 0) → Forest → Type 0
 AllSpans P empty = Unit {0}
 AllSpans P (leaf l rest) = P (span_of l) × AllSpans P rest
-AllSpans P (group d inner rest) = P d.open_span × P d.close_span × AllSpans P inner × AllSpans P rest
+AllSpans P (group d inner rest) = P d.open_span × P d.close_span × AllSpans P inner
+    × AllSpans P rest
 
 -- a span written in the text of this place, no part of which is before it
 pub record IsFrom (p : Place) (s : Span) : Type 0 where
@@ -132,13 +133,15 @@ pub data Kept : Type 0 where
 -- that piece, with its spans in the text
 abbrev pub present : Kept → Member
 present (kept start before tree outcome) =
-    plain (map_spans (resolve start before) tree) (outcome_with (resolve start before) (resolve_definition start before) outcome)
+    plain (map_spans (resolve start before) tree)
+    (outcome_with (resolve start before) (resolve_definition start before) outcome)
 present (met m) = defining (present_definition m)
 
 module _ (world : World Definition) (depth : ℕ) (number_of : Forest → ℕ) where
   -- a piece that is this definition, with its place and id
   abbrev pub met_of : Forest → Definition → Met
-  met_of piece d = record { place = first_place piece; numbered = record { number = number_of (relative piece); definition = d } }
+  met_of piece d = record { place = first_place piece;
+      numbered = record { number = number_of (relative piece); definition = d } }
 
   -- the definitions so far with that of one more piece, if it is one
   abbrev pub with_met : Forest → Option Definition → List Met → List Met
@@ -182,7 +185,8 @@ IsMet table m = IsNumbered table m.numbered
 
 -- the tree of a definition has its id
 abbrev pub HasNumber : (Forest → ℕ → Type 0) → (Forest → ℕ) → Forest → Type 0
-HasNumber table number_of p = (d : Definition) → definition_of (relative p) ≡ Some d → table (relative p) (number_of (relative p))
+HasNumber table number_of p = (d : Definition) → definition_of (relative p) ≡ Some d
+    → table (relative p) (number_of (relative p))
 
 -- ids of trees, from 1 on: no two different trees have one id
 pub record TellsApart (number_of : Forest → ℕ) (trees : List Forest) : Type 0 where

@@ -54,7 +54,8 @@ module _ (layers : Layers) where
   -- the faults of a piece's expansion, or that of an invalid definition
   abbrev pub member_faults : Member → List Fault
   member_faults (plain piece outcome) = map (λ f. fault_at f.0 f.1) outcome.faults
-  member_faults (defining d) = if layers.world.broken d then fault_at BrokenDefinition d.name.span ∷ [] else []
+  member_faults (defining d) = if layers.world.broken d
+      then fault_at BrokenDefinition d.name.span ∷ [] else []
 
   -- the tokens that are printed
   abbrev pub tokens_of : List Member → List PrintedToken
@@ -66,7 +67,8 @@ module _ (layers : Layers) where
       ++ (nested (tokens_of ms) ++ unspellable (left_out layers.spelling (output ms))))
 
   abbrev pub meaning_of : List Member → ReadMeaning
-  meaning_of ms = record { members = ms; tokens = tokens_of ms; text = text_of (tokens_of ms); faults = faults_of ms }
+  meaning_of ms = record { members = ms; tokens = tokens_of ms; text = text_of (tokens_of ms);
+      faults = faults_of ms }
 
 module _ (layers : Layers) (depth : ℕ) where
   -- a piece in the scope of the definitions before it, which are given nearest first

@@ -22,8 +22,10 @@ CommutesWithMarker f = (s : Span) → f (made s) ≡ made (f s)
 
 -- under a span map on definition and argument, a world gives the same result under the map
 pub record LooksAtNoPlace (world : World Definition) : Type 0 where
-  pub broken : (f : Span → Span) (d : Definition) → world.broken (definition_with f d) ≡ world.broken d
+  pub broken : (f : Span → Span) (d : Definition)
+      → world.broken (definition_with f d) ≡ world.broken d
   pub fit : (f : Span → Span) → CommutesWithMarker f → (d : Definition) (argument : Forest)
-      → world.fit (definition_with f d) (map_spans f argument) ≡ option_map (map_spans f) (world.fit d argument)
+      → world.fit (definition_with f d) (map_spans f argument)
+      ≡ option_map (map_spans f) (world.fit d argument)
   pub bursts : (f : Span → Span) → CommutesWithMarker f → (d : Definition) (argument : Forest)
       → world.bursts (definition_with f d) (map_spans f argument) ≡ world.bursts d argument

@@ -30,23 +30,29 @@ CutsOff old new result =
 abbrev pub PassesTree : Forest → Forest → Forest → Option Bool → Type 0
 PassesTree begun old new None = (old ≡ empty) × (new ≡ old)
 PassesTree begun old new (Some true) =
-    (tree : Forest) × ((old ≡ joined tree new) × (cut_from old begun ≡ joined begun tree ∷ cut new) × (size new < size old))
+    (tree : Forest) × ((old ≡ joined tree new) × (cut_from old begun ≡ joined begun tree ∷ cut new)
+    × (size new < size old))
 PassesTree begun old new (Some false) =
-    (tree : Forest) × ((old ≡ joined tree new) × (cut_from old begun ≡ cut_from new (joined begun tree)) × (size new < size old))
+    (tree : Forest) × ((old ≡ joined tree new)
+    × (cut_from old begun ≡ cut_from new (joined begun tree)) × (size new < size old))
 
 -- the tree ends the piece begun, or does not, under any span map and whatever follows
 abbrev pub EndsAlways : Bool → Forest → Forest → Type 0
-EndsAlways b begun tree = (f : Span → Span) (after : Forest) → cut_from (joined (map_spans f tree) after) (map_spans f begun)
-    ≡ (if b then joined (map_spans f begun) (map_spans f tree) ∷ cut after else cut_from after (joined (map_spans f begun) (map_spans f tree)))
+EndsAlways b begun tree = (f : Span → Span) (after : Forest)
+    → cut_from (joined (map_spans f tree) after) (map_spans f begun)
+    ≡ (if b then joined (map_spans f begun) (map_spans f tree) ∷ cut after
+    else cut_from after (joined (map_spans f begun) (map_spans f tree)))
 
 -- the next tree was passed, and ends the piece begun or does not, wherever it occurs
 abbrev pub PassesAlways : Forest → Forest → Forest → Option Bool → Type 0
 PassesAlways begun old new None = Unit {0}
-PassesAlways begun old new (Some b) = (tree : Forest) × ((old ≡ joined tree new) × EndsAlways b begun tree × (size new < size old))
+PassesAlways begun old new (Some b) = (tree : Forest)
+    × ((old ≡ joined tree new) × EndsAlways b begun tree × (size new < size old))
 
 -- one whole piece, wherever it occurs and whatever follows
 abbrev pub IsWhole : Forest → Type 0
-IsWhole p = (f : Span → Span) (after : Forest) → cut (joined (map_spans f p) after) ≡ map_spans f p ∷ cut after
+IsWhole p = (f : Span → Span) (after : Forest)
+    → cut (joined (map_spans f p) after) ≡ map_spans f p ∷ cut after
 
 -- one piece that nothing ends, wherever it occurs
 abbrev pub IsOpen : Forest → Type 0

@@ -19,7 +19,8 @@ use Rattle.expander_model.specs.declared.dialect.Dialect.{Dialect}
 -- the rules of a definition, all of whose identifiers are of this edition, with its first fault
 abbrev pub rules_by : Edition → Definition → Rules
 rules_by edition d =
-    if d.is_macro then macro_of (λ context. edition) d.arguments d.body else macro_rules_of (λ context. edition) d.body
+    if d.is_macro then macro_of (λ context. edition) d.arguments d.body
+    else macro_rules_of (λ context. edition) d.body
 
 -- the same in the edition of the definition's mark, or else in this one
 abbrev pub rules_in : Edition → Definition → Rules
@@ -31,13 +32,15 @@ made span = record span { ctx = Made }
 
 -- what the first of these rules that fits an argument gives
 abbrev pub fit_of : Grammar → Rules → Forest → Option Forest
-fit_of grammar rules argument = option_map (λ r. r.1) (fit is_name grammar made rules.list FnLike argument)
+fit_of grammar rules argument = option_map (λ r. r.1)
+    (fit is_name grammar made rules.list FnLike argument)
 
 -- what definitions mean by this grammar, edition and dialect
 abbrev pub world : Grammar → Edition → Dialect → World Definition
 world grammar edition dialect = record {
   broken = λ d. is_some (rules_in edition d).err;
   fit = λ d argument. fit_of grammar (rules_in edition d) argument;
-  bursts = λ d argument. made_by.bursts is_name grammar made (rules_in edition d).list FnLike argument;
+  bursts = λ d argument. made_by.bursts is_name grammar made
+      (rules_in edition d).list FnLike argument;
   dialect = dialect;
 }

@@ -9,4 +9,6 @@ HoldsText words text = IfSome words.all (λ q. (rc_value q).items ≡ text)
 
 -- these bytes are at this offset of the copy, if there is one
 abbrev pub HasWord : ByteStore → ℕ → List ℕ → Type 0
-HasWord words at bytes = IfSome words.all (λ q. (take (length bytes) (drop at (rc_value q).items) ≡ bytes) × (at + length bytes ≤ length (rc_value q).items))
+HasWord words at bytes = IfSome words.all
+    (λ q. (take (length bytes) (drop at (rc_value q).items) ≡ bytes)
+    × (at + length bytes ≤ length (rc_value q).items))

@@ -14,12 +14,14 @@ use Rattle.expander_reparse.specs.declared.parse.Parsed.TheVariants.{Fault, Piec
 
 -- the trees of a text, each `;` between pieces with spacing `Alone`, or its reading fault
 abbrev pub IsReadApart : List ℕ → Read → Type 0
-IsReadApart text (whole.Tree t) = (f : Forest) × (text_reading text ≡ Ok f) × (t.inner ≡ separated f)
+IsReadApart text (whole.Tree t) = (f : Forest) × (text_reading text ≡ Ok f)
+    × (t.inner ≡ separated f)
 IsReadApart text (whole.Fault fault) = text_reading text ≡ Err fault
 
 -- the pieces of a text with what can be cached of them, or its reading fault
 abbrev pub IsReadInPieces : List ℕ → Parsed → Type 0
-IsReadInPieces text (Pieces own sources) = (f : Forest) × (text_reading text ≡ Ok f) × AreOwn (pieces f) own.items × AreSegments sources
+IsReadInPieces text (Pieces own sources) =
+    (f : Forest) × (text_reading text ≡ Ok f) × AreOwn (pieces f) own.items × AreSegments sources
 IsReadInPieces text (Fault fault) = text_reading text ≡ Err fault
 
 -- each piece has the tree of the cached piece that it names, if it names one

@@ -48,14 +48,16 @@ pub record IsLastPiece (text : List ℕ) (at : ℕ) (left : List Token) (o : Pie
 
 -- a piece has the tree of the cached piece of this index, if one is named
 abbrev pub IsMet : Segments → Option ℕ → Top → Type 0
-IsMet held met tree = IfSome met (λ i. (s : CachedPiece) × IsHeldAt held i s × (rc_value s.tree ≡ tree))
+IsMet held met tree =
+    IfSome met (λ i. (s : CachedPiece) × IsHeldAt held i s × (rc_value s.tree ≡ tree))
 
 -- each piece has the tree of the cached piece that it names, if it names one
 abbrev pub AreMet : Segments → List Piece → Type 0
 AreMet held own = All (λ (o : Piece). IsMet held o.met (tree_at o)) own
 
 -- a cached piece with these bytes, before this text, so many tokens, before these, and this tree
-pub record KeepsCached (word behind : List ℕ) (count : ℕ) (after : List Token) (t : Top) (s : CachedPiece) : Type 0 where
+pub record KeepsCached (word behind : List ℕ) (count : ℕ) (after : List Token) (t : Top)
+    (s : CachedPiece) : Type 0 where
   pub bytes : s.cutout.bytes ≡ word
   pub ahead : chars_ahead s.cutout.ahead ≡ take 2 (chars behind)
   pub count_is : s.cutout.count ≡ count
@@ -69,7 +71,8 @@ pub record IsCachedHere (text : List ℕ) (tokens : List Token) (s : CachedPiece
 
 -- a token of this kind is read as nothing
 abbrev pub IsBlank : TokenKind → Type 0
-IsBlank kind = (t : PlacedToken) (more : List PlacedToken) → steps_of_class (class_of kind) t more ≡ []
+IsBlank kind = (t : PlacedToken) (more : List PlacedToken)
+    → steps_of_class (class_of kind) t more ≡ []
 
 -- more pieces were added, which start at these offsets and have these trees
 pub record AddsPieces (shown : List (ℕ × Top)) (old new : List Piece) : Type 0 where
@@ -82,18 +85,21 @@ pub record Passed (text : List ℕ) (at : ℕ) (left : List Token) (own : List P
   pub front : Forest
   pub ps : List Forest
   pub here : AreTokensFrom text at left
-  pub reads : text_reading text ≡ with_front front (reading (steps_of (placed_from at (drop at text) left)))
+  pub reads : text_reading text ≡ with_front front
+      (reading (steps_of (placed_from at (drop at text) left)))
   pub cuts : (g : Forest) → pieces (joined front g) ≡ ps ++ pieces g
   pub are_own : AreOwn ps own
 
 -- each cached piece has the tree of the text's piece at its index
 abbrev pub AreTheirs : Segments → List Piece → Type 0
-AreTheirs sources own = (i : ℕ) (s : Rc CachedPiece Global) (o : Piece) → slice_get (all_in sources) i ≡ Some s → slice_get own i ≡ Some o
+AreTheirs sources own = (i : ℕ) (s : Rc CachedPiece Global) (o : Piece)
+    → slice_get (all_in sources) i ≡ Some s → slice_get own i ≡ Some o
     → rc_value (rc_value s).tree ≡ tree_at o
 
 -- these cached pieces have exactly the trees of these pieces
 abbrev pub AreMade : List Piece → List (Rc CachedPiece Global) → Type 0
-AreMade own list = map (λ (s : Rc CachedPiece Global). rc_value (rc_value s).tree) list ≡ map tree_at own
+AreMade own list = map (λ (s : Rc CachedPiece Global). rc_value (rc_value s).tree) list
+    ≡ map tree_at own
 
 -- the tokens since the open segment began were passed, and are read as its parts
 pub record IsBegun (text : List ℕ) (at : ℕ) (left : List Token) (b : OpenSegment) : Type 0 where
@@ -102,11 +108,13 @@ pub record IsBegun (text : List ℕ) (at : ℕ) (left : List Token) (b : OpenSeg
   pub count : b.tokens ≡ length (tokens ++ left)
   pub ends : at ≡ b.from + bytes_of tokens
   pub some : 1 ≤ length b.parts.items → 1 ≤ length tokens
-  pub reads : AreReadAs (take (bytes_of tokens) (drop b.from text)) tokens (begins_with_mark left) (λ n. map (part_shown n) b.parts.items)
+  pub reads : AreReadAs (take (bytes_of tokens) (drop b.from text)) tokens (begins_with_mark left)
+      (λ n. map (part_shown n) b.parts.items)
   pub parts : AreParts (bytes_of tokens) b.parts.items
 
 -- one more piece, which starts at this offset, is part of the open segment
-pub record TakesPart (at : ℕ) (source : Rc CachedPiece Global) (old new : OpenSegment) : Type 0 where
+pub record TakesPart (at : ℕ) (source : Rc CachedPiece Global)
+    (old new : OpenSegment) : Type 0 where
   pub part : SegmentPart
   pub source_is : part.source ≡ source
   pub before : old.from + part.before ≡ at
@@ -123,7 +131,8 @@ pub record AddsSegment (first : ℕ) (s : Segment) (old new : List CachedSegment
   pub items : new ≡ old ++ held ∷ []
 
 -- a text was read up to here: its pieces so far, their segments, and what is cached of them
-pub record IsReparse (held : Segments) (text : List ℕ) (at : ℕ) (left : List Token) (now : Reparse) : Type 0 where
+pub record IsReparse (held : Segments) (text : List ℕ) (at : ℕ) (left : List Token)
+    (now : Reparse) : Type 0 where
   pub passed : Passed text at left now.own.items
   pub met : AreMet held now.own.items
   pub begun : IsBegun text at left now.begun

@@ -49,11 +49,13 @@ pub record IsTokenRun (c : TokenRun) (tokens : List Token) : Type 0 where
 
 -- wherever tokens with these bytes occur, with a punct after them as `mark` says, they are read
 -- as pieces that start at these offsets and have these piece-relative trees
-pub record AreReadAs (bytes : List ℕ) (tokens : List Token) (mark : Bool) (shown : ℕ → List (ℕ × Top)) : Type 0 where
+pub record AreReadAs (bytes : List ℕ) (tokens : List Token) (mark : Bool)
+    (shown : ℕ → List (ℕ × Top)) : Type 0 where
   pub forest : ℕ → Forest
   pub ps : ℕ → List Forest
   pub reads : (at : ℕ) (after : List PlacedToken) → starts_with_mark after ≡ mark
-      → steps_of (placed_from at bytes tokens ++ after) ≡ map step (walk (forest at)) ++ steps_of after
+      → steps_of (placed_from at bytes tokens ++ after)
+      ≡ map step (walk (forest at)) ++ steps_of after
   pub cuts : (at : ℕ) (g : Forest) → pieces (joined (forest at) g) ≡ ps at ++ pieces g
   pub are : (at : ℕ) → map own_of (ps at) ≡ shown at
 
@@ -73,13 +75,15 @@ part_shown at p = (at + p.before, part_top p)
 
 -- each part begins in its segment, and is right by itself
 abbrev pub AreParts : ℕ → List SegmentPart → Type 0
-AreParts bytes parts = All (λ (p : SegmentPart). (p.before ≤ bytes) × IsCachedPiece (rc_value p.source)) parts
+AreParts bytes parts =
+    All (λ (p : SegmentPart). (p.before ≤ bytes) × IsCachedPiece (rc_value p.source)) parts
 
 -- the tokens of a segment are read as its parts, wherever they occur
 pub record IsSegment (s : Segment) : Type 0 where
   pub tokens : List Token
   pub cutout : IsTokenRun s.cutout tokens
-  pub reads : AreReadAs s.cutout.bytes tokens s.cutout.mark (λ at. map (part_shown at) s.parts.items)
+  pub reads : AreReadAs s.cutout.bytes tokens s.cutout.mark
+      (λ at. map (part_shown at) s.parts.items)
   pub parts : AreParts (length s.cutout.bytes) s.parts.items
 
 -- tokens occur first in a text with these tokens, and a punct follows as it did
@@ -98,7 +102,8 @@ pieces_of list = flat_map (λ (h : CachedSegment). sources_of (rc_value h.segmen
 -- each segment has the number of pieces cached before it, which for the first is this one
 abbrev pub AreCounted : ℕ → List CachedSegment → Type 0
 AreCounted n [] = ⊤
-AreCounted n (h ∷ more) = (h.first ≡ n) × AreCounted (n + length (rc_value h.segment).parts.items) more
+AreCounted n (h ∷ more) = (h.first ≡ n) × AreCounted
+    (n + length (rc_value h.segment).parts.items) more
 
 -- segments are right by themselves, and have the number of pieces cached before them
 pub record AreListed (list : List CachedSegment) : Type 0 where
@@ -111,12 +116,14 @@ all_in sources = pieces_of sources.list.items
 
 -- the cached piece of this index
 abbrev pub IsHeldAt : Segments → ℕ → CachedPiece → Type 0
-IsHeldAt sources i s = (q : Rc CachedPiece Global) × (slice_get (all_in sources) i ≡ Some q) × (rc_value q ≡ s)
+IsHeldAt sources i s = (q : Rc CachedPiece Global) × (slice_get (all_in sources) i ≡ Some q)
+    × (rc_value q ≡ s)
 
 -- a cached segment, and its pieces among all that are cached
 pub record IsCachedSegment (sources : Segments) (h : CachedSegment) : Type 0 where
   pub right : IsSegment (rc_value h.segment)
-  pub among : (i : ℕ) (p : SegmentPart) → slice_get (rc_value h.segment).parts.items i ≡ Some p → slice_get (all_in sources) (h.first + i) ≡ Some p.source
+  pub among : (i : ℕ) (p : SegmentPart) → slice_get (rc_value h.segment).parts.items i ≡ Some p
+      → slice_get (all_in sources) (h.first + i) ≡ Some p.source
 
 -- all that is cached is right
 abbrev pub AreSegments : Segments → Type 0

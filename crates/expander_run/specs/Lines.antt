@@ -61,7 +61,9 @@ stop_words (Refused refusal) = refusal_words refusal
 
 -- a line with its position, and what is wrong there
 abbrev pub line : (line column : ℕ) → List ℕ → List ℕ
-line l c what = codes "line " ++ (decimal l ++ (codes ", byte column " ++ (decimal c ++ (codes ": " ++ (what ++ (10 ∷ []))))))
+line l c what = codes "line "
+    ++ (decimal l ++ (codes ", byte column "
+    ++ (decimal c ++ (codes ": " ++ (what ++ (10 ∷ []))))))
 
 -- a line whose position is that of a byte of the text
 abbrev pub line_of : List ℕ → ℕ → List ℕ → List ℕ

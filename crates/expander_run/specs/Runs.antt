@@ -73,12 +73,16 @@ IsFlushed (Read e) before writer = writer.flushed ≡ true
 IsFlushed (Unread fault) before writer = writer ≡ before
 
 -- all is written and flushed last, or the first bytes are and the writer failed
-abbrev pub Puts : {W : Type 0} → Option (List ℕ) → Option (List ℕ) → Watch W → List ℕ → Bool → Type 0
-Puts old new writer bytes true = Appends old new bytes × (writer.flushed ≡ true) × (writer.failed ≡ false)
-Puts old new writer bytes false = ((k : ℕ) × Appends old new (take k bytes)) × (writer.failed ≡ true)
+abbrev pub Puts : {W : Type 0} → Option (List ℕ) → Option (List ℕ) → Watch W → List ℕ → Bool
+    → Type 0
+Puts old new writer bytes true = Appends old new bytes × (writer.flushed ≡ true)
+    × (writer.failed ≡ false)
+Puts old new writer bytes false = ((k : ℕ) × Appends old new (take k bytes))
+    × (writer.failed ≡ true)
 
 -- the report is written whole and flushed last, or its first bytes if that writer failed
-pub record Tells {E : Type 0} (told : List ℕ) (tells : List ℕ → Type 0) (faults : Watch E) : Type 0 where
+pub record Tells {E : Type 0} (told : List ℕ) (tells : List ℕ → Type 0)
+    (faults : Watch E) : Type 0 where
   pub taken : ℕ
   pub written : tells (take taken told)
   pub whole : faults.failed ≡ false → take taken told ≡ told
@@ -98,7 +102,8 @@ is_of_writer _ = false
 -- text has fewer definitions than there are ids, and the session of a run is new
 abbrev pub NeedsIds : Layers → List Forest → ℕ → List ℕ → Type 0
 NeedsIds layers [] depth text = ⊥
-NeedsIds layers (p ∷ ps) depth text = NeedsNumbersIn 0 [] (p ∷ ps) (meaning_in layers depth (definitions_of (p ∷ ps)) text)
+NeedsIds layers (p ∷ ps) depth text = NeedsNumbersIn 0 [] (p ∷ ps)
+    (meaning_in layers depth (definitions_of (p ∷ ps)) text)
 
 -- what makes a run after these definitions of other texts stop: its reader and writers know whether
 -- they failed
@@ -108,11 +113,15 @@ StopsAfter layers prelude TooLong input depth = IfSome input (λ bytes. 2 ^ 32 �
 StopsAfter layers prelude ReadFailed input depth = ⊤
 StopsAfter layers prelude WriteFailed input depth = ⊤
 StopsAfter layers prelude (Refused Memory) input depth = ⊤
-StopsAfter layers prelude (Refused Tokens) input depth = (text : List ℕ) × IsInput input text × NeedsTooManyIn layers depth (definitions_of prelude) text
-StopsAfter layers prelude (Refused Numbers) input depth = (text : List ℕ) × IsInput input text × NeedsIds layers prelude depth text
+StopsAfter layers prelude (Refused Tokens) input depth =
+    (text : List ℕ) × IsInput input text
+    × NeedsTooManyIn layers depth (definitions_of prelude) text
+StopsAfter layers prelude (Refused Numbers) input depth =
+    (text : List ℕ) × IsInput input text × NeedsIds layers prelude depth text
 
 -- a writer that failed has taken the first bytes of the text to be printed
-pub record BreaksOff (layers : Layers) (prelude : List Forest) (input : Option (List ℕ)) (depth : ℕ) (writes : List ℕ → Type 0) : Type 0 where
+pub record BreaksOff (layers : Layers) (prelude : List Forest) (input : Option (List ℕ))
+    (depth : ℕ) (writes : List ℕ → Type 0) : Type 0 where
   pub text : List ℕ
   pub is_input : IsInput input text
   pub expansion : Expanded
@@ -127,7 +136,8 @@ LeavesAt layers prelude _ input depth writes = writes []
 
 -- a run that answers: it writes the printed text and the report, and has the reply's status;
 -- `before` is the writer as it was handed in
-pub record Finishes {R W E : Type 0} (layers : Layers) (prelude : List Forest) (input : Option (List ℕ)) (depth : ℕ) (writes tells : List ℕ → Type 0)
+pub record Finishes {R W E : Type 0} (layers : Layers) (prelude : List Forest)
+    (input : Option (List ℕ)) (depth : ℕ) (writes tells : List ℕ → Type 0)
     (reader : Watch R) (before writer : Watch W) (faults : Watch E) (result : Status) : Type 0 where
   pub text : List ℕ
   pub is_input : IsInput input text
@@ -142,7 +152,8 @@ pub record Finishes {R W E : Type 0} (layers : Layers) (prelude : List Forest) (
 
 -- a run that stops: it has a cause, which it reports, and its status is 1; unless the writer
 -- failed, nothing was asked of it
-pub record Refuses {R W E : Type 0} (layers : Layers) (prelude : List Forest) (stop : Stop) (input : Option (List ℕ)) (depth : ℕ) (writes tells : List ℕ → Type 0)
+pub record Refuses {R W E : Type 0} (layers : Layers) (prelude : List Forest) (stop : Stop)
+    (input : Option (List ℕ)) (depth : ℕ) (writes tells : List ℕ → Type 0)
     (reader : Watch R) (before writer : Watch W) (faults : Watch E) (result : Status) : Type 0 where
   pub cause : StopsAfter layers prelude stop input depth
   pub left : LeavesAt layers prelude stop input depth writes
@@ -154,14 +165,21 @@ pub record Refuses {R W E : Type 0} (layers : Layers) (prelude : List Forest) (s
 
 -- a run after these definitions, over what its reader had left, with what its writers took: it
 -- answers or it stops
-abbrev pub RunsAfter : {R W E : Type 0} → Layers → List Forest → Option Stop → Option (List ℕ) → ℕ → (writes tells : List ℕ → Type 0) → Watch R → Watch W → Watch W → Watch E → Status → Type 0
-RunsAfter layers prelude None input depth writes tells reader before writer faults result = Finishes layers prelude input depth writes tells reader before writer faults result
-RunsAfter layers prelude (Some stop) input depth writes tells reader before writer faults result = Refuses layers prelude stop input depth writes tells reader before writer faults result
+abbrev pub RunsAfter : {R W E : Type 0} → Layers → List Forest → Option Stop → Option (List ℕ) → ℕ
+    → (writes tells : List ℕ → Type 0) → Watch R → Watch W → Watch W → Watch E → Status → Type 0
+RunsAfter layers prelude None input depth writes tells reader before writer faults result =
+    Finishes layers prelude input depth writes tells reader before writer faults result
+RunsAfter layers prelude (Some stop) input depth writes tells reader before writer faults result =
+    Refuses layers prelude stop input depth writes tells reader before writer faults result
 
 -- a run without definitions of other texts
-abbrev pub RunsBy : {R W E : Type 0} → Layers → Option Stop → Option (List ℕ) → ℕ → (writes tells : List ℕ → Type 0) → Watch R → Watch W → Watch W → Watch E → Status → Type 0
-RunsBy layers stop input depth writes tells reader before writer faults result = RunsAfter layers [] stop input depth writes tells reader before writer faults result
+abbrev pub RunsBy : {R W E : Type 0} → Layers → Option Stop → Option (List ℕ) → ℕ
+    → (writes tells : List ℕ → Type 0) → Watch R → Watch W → Watch W → Watch E → Status → Type 0
+RunsBy layers stop input depth writes tells reader before writer faults result =
+    RunsAfter layers [] stop input depth writes tells reader before writer faults result
 
 -- a run of `run`
-abbrev pub Runs : {R W E : Type 0} → Option Stop → Option (List ℕ) → ℕ → (writes tells : List ℕ → Type 0) → Watch R → Watch W → Watch W → Watch E → Status → Type 0
-Runs stop input depth writes tells reader before writer faults result = RunsBy run_layers stop input depth writes tells reader before writer faults result
+abbrev pub Runs : {R W E : Type 0} → Option Stop → Option (List ℕ) → ℕ
+    → (writes tells : List ℕ → Type 0) → Watch R → Watch W → Watch W → Watch E → Status → Type 0
+Runs stop input depth writes tells reader before writer faults result =
+    RunsBy run_layers stop input depth writes tells reader before writer faults result

@@ -23,20 +23,25 @@ StopsReading (Refused Memory) input failed = failed ≡ false
 StopsReading _ input failed = ⊥
 
 -- a reply to the whole input after these definitions, and its report
-pub record Replied (layers : Layers) (prelude : List Forest) (input : Option (List ℕ)) (depth : ℕ) (reply : Reply) (told : List ℕ) : Type 0 where
+pub record Replied (layers : Layers) (prelude : List Forest) (input : Option (List ℕ)) (depth : ℕ)
+    (reply : Reply) (told : List ℕ) : Type 0 where
   pub text : List ℕ
   pub is_input : IsInput input text
   pub is_reply : IsReplyIn layers depth (definitions_of prelude) text None reply
   pub is_told : told ≡ report text reply
 
 -- why there is no reply, and whether the reader failed
-pub record StopsEarly (layers : Layers) (prelude : List Forest) (stop : Stop) (input : Option (List ℕ)) (depth : ℕ) (failed : Bool) : Type 0 where
+pub record StopsEarly (layers : Layers) (prelude : List Forest) (stop : Stop)
+    (input : Option (List ℕ)) (depth : ℕ) (failed : Bool) : Type 0 where
   pub cause : StopsAfter layers prelude stop input depth
   pub reader : failed ≡ is_of_reader stop
   pub writer : is_of_writer stop ≡ false
 
 -- the printed text of a reply is written, or its first bytes are and the writer failed
-abbrev pub PutsReply : {W : Type 0} → Option (List ℕ) → Option (List ℕ) → Watch W → Watch W → Reply → Bool → Type 0
-PutsReply old new before writer reply true = Appends old new (printed_of reply) × IsFlushed reply before writer × (writer.failed ≡ false)
+abbrev pub PutsReply : {W : Type 0} → Option (List ℕ) → Option (List ℕ) → Watch W → Watch W → Reply
+    → Bool → Type 0
+PutsReply old new before writer reply true =
+    Appends old new (printed_of reply) × IsFlushed reply before writer × (writer.failed ≡ false)
 PutsReply old new before writer reply false =
-    (e : Expanded) × (reply ≡ Read e) × ((k : ℕ) × Appends old new (take k e.printed)) × (writer.failed ≡ true)
+    (e : Expanded) × (reply ≡ Read e) × ((k : ℕ) × Appends old new (take k e.printed))
+    × (writer.failed ≡ true)

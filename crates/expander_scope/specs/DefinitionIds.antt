@@ -20,7 +20,8 @@ abbrev pub by_either : (Forest → Option ℕ) → (Forest → Option ℕ) → F
 by_either now old t = or_else (now t) (old t)
 
 -- these trees have ids now: those that they had before, and new ones where they need any
-pub record AreNumbered (old_given : ℕ) (old : Forest → Option ℕ) (known trees : List Forest) (given : ℕ) (now : Forest → Option ℕ) : Type 0 where
+pub record AreNumbered (old_given : ℕ) (old : Forest → Option ℕ) (known trees : List Forest)
+    (given : ℕ) (now : Forest → Option ℕ) : Type 0 where
   pub numbers : AreNumbers given (by_either now old)
   pub stay : (t : Forest) (m n : ℕ) → now t ≡ Some m → old t ≡ Some n → m ≡ n
   pub have : HaveNumbers now trees

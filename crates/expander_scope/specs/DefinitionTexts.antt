@@ -13,8 +13,10 @@ abbrev pub inner_of : MacroDef → Forest
 inner_of k = k.tree.inner
 
 -- these are the trees so far, given ids after those that had one before
-pub record HasNumbered (old_given : ℕ) (old : Interner) (known trees : List Forest) (now : code.DefinitionIds) : Type 0 where
-  pub numbers : AreNumbered old_given (numbers_in old) known trees now.given (numbers_in now.by_tree)
+pub record HasNumbered (old_given : ℕ) (old : Interner) (known trees : List Forest)
+    (now : code.DefinitionIds) : Type 0 where
+  pub numbers : AreNumbered old_given (numbers_in old) known trees now.given
+      (numbers_in now.by_tree)
   pub trees_are : map (λ k. inner_of (rc_value k)) now.definitions.items ≡ trees
   pub table : IsTable now.by_tree
   pub listed : AreInTable now.by_tree now.definitions.items

@@ -1,4 +1,5 @@
--- The search of lists for calls, in a tree with piece-relative spans, and what it adds to an output.
+-- The search of lists for calls, in a tree with piece-relative spans, and what it adds to an
+-- output.
 use Rattle.std.specs.Prelude.{◌≡◌, ℕ, zero, suc, Bool, false, ◌&&◌, not, List, ◌++◌, map, Option, Some, None, Result, Ok, Err, if◌then◌else◌}
 use Rattle.tt_data.specs.Forest.{Forest, size}
 use Rattle.tt.specs.Tops.{Top}
@@ -42,7 +43,8 @@ module _ (dialect : Dialect) (world : World Numbered) where
 module _ (world : World Numbered) where
   -- the result of a call with so many levels left, or the fault for which the call stays
   abbrev pub answer : Numbered → ℕ → Forest → Result Forest FaultKind
-  answer d depth argument = if world.broken d then Err BrokenDefinition else answer_at depth (world.fit d argument)
+  answer d depth argument = if world.broken d then Err BrokenDefinition
+      else answer_at depth (world.fit d argument)
 
   -- a rule of the definition is tried, and puts out too many tokens
   abbrev pub makes_too_many : Numbered → ℕ → Forest → Bool
@@ -76,7 +78,8 @@ module _ {S : Type 0} (Has : S → List PlacedStep → Type 0) where
     pub faults : new.faults.items ≡ old.faults.items ++ o.faults
     pub finds : map find_of new.finds.items ≡ map find_of old.finds.items ++ o.finds
 
-  -- a sink has taken an expansion result's events after all earlier ones; its faults and look-ups are these
+  -- a sink has taken an expansion result's events after all earlier ones; its faults and look-ups
+  -- are these
   pub record Expands (old : S) (new : Expanding S) (o : Outcome Numbered) : Type 0 where
     pub steps : TakesMore Has old new.output o.steps
     pub faults : new.faults.items ≡ o.faults

@@ -19,7 +19,8 @@ known_in table t = option_map (λ k. k.value) (get_by (λ k. same_top t k.value)
 
 -- the table has each of these definitions for its tree
 abbrev pub AreInTable : Interner → List (Rc MacroDef Global) → Type 0
-AreInTable table knowns = All (λ (k : Rc MacroDef Global). known_in table (rc_value k).tree ≡ Some (rc_value k)) knowns
+AreInTable table knowns =
+    All (λ (k : Rc MacroDef Global). known_in table (rc_value k).tree ≡ Some (rc_value k)) knowns
 
 -- the id that the table has for a tree
 abbrev pub numbers_in : Interner → Forest → Option ℕ

@@ -9,10 +9,12 @@ use Rattle.expander_scope.specs.declared.list_walk.ListWalk.{ListWalk}
 use Rattle.expander_scope.specs.declared.locals.Locals.{Locals}
 
 -- the list around a group goes on as its level says; what a visible group defined is gone
-pub record Leaves (kind : DelimiterKind) (level : Level) (rest : List Level) (old : Locals) (after : ListWalk) (new : Locals) : Type 0 where
+pub record Leaves (kind : DelimiterKind) (level : Level) (rest : List Level) (old : Locals)
+    (after : ListWalk) (new : Locals) : Type 0 where
   pub levels : reverse after.levels.items ≡ rest
   pub begun : after.begun ≡ level.begun
   pub standing : after.standing ≡ level.standing
   pub let_out : is_visible kind ≡ false → new ≡ old
-  pub cut_back : is_visible kind ≡ true → (front back : List Definition) → locals_of old ≡ front ++ back
+  pub cut_back : is_visible kind ≡ true → (front back : List Definition)
+      → locals_of old ≡ front ++ back
       → length back ≡ level.locals → locals_of new ≡ back

@@ -14,7 +14,8 @@ Local = List ℕ × Rc MacroDef Global
 
 -- each has the name of its definition
 abbrev pub AreNamed : NameStack (Rc MacroDef Global) → Type 0
-AreNamed names = All (λ (e : Local). e.0 ≡ (numbered_of_known (rc_value e.1)).definition.name.sym) (entries_of names)
+AreNamed names = All (λ (e : Local). e.0 ≡ (numbered_of_known (rc_value e.1)).definition.name.sym)
+    (entries_of names)
 
 -- none has an id
 abbrev pub AreOfLists : NameStack (Rc MacroDef Global) → Type 0

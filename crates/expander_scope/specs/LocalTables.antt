@@ -11,7 +11,8 @@ use Rattle.expander_scope.specs.declared.locals.Locals.{Locals}
 
 -- the definitions, the nearest first
 abbrev pub locals_of : Locals → List Definition
-locals_of l = map (λ (e : Local). (numbered_of_known (rc_value e.1)).definition) (entries_of l.names)
+locals_of l = map (λ (e : Local). (numbered_of_known (rc_value e.1)).definition)
+    (entries_of l.names)
 
 -- each has its rules, its identifiers being of this edition
 abbrev pub AreReadIn : Edition → Locals → Type 0

@@ -7,4 +7,5 @@ use Rattle.expander_model.specs.EqualTrees.{same_forest}
 -- how many of the trees need a new id, where these have one: equal ones share it
 abbrev pub needed : List Forest → List Forest → ℕ
 needed known [] = 0
-needed known (t ∷ more) = if list_any (same_forest t) known then needed known more else (1 + needed (t ∷ known) more)
+needed known (t ∷ more) = if list_any (same_forest t) known then needed known more
+    else (1 + needed (t ∷ known) more)

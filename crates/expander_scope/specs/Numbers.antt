@@ -25,7 +25,8 @@ number_of entries t = unwrap_or (number_in entries t) 0
 -- the ids with one for this tree: the one that it has already, or else a new one
 abbrev pub with_number : Numbering → Forest → Option ℕ → Numbering
 with_number n t (Some k) = n
-with_number n t None = record { given = 1 + n.given; entries = record { tree = t; number = 1 + n.given } ∷ n.entries }
+with_number n t None =
+    record { given = 1 + n.given; entries = record { tree = t; number = 1 + n.given } ∷ n.entries }
 
 -- the ids once these trees have theirs, new ones where they need any
 abbrev pub with_trees : Numbering → List Forest → Numbering
@@ -39,4 +40,5 @@ tree_of e = e.tree
 -- the ids are from 1 to the number given, and each is of one entry
 abbrev pub AreEntries : ℕ → List Entry → Type 0
 AreEntries given [] = Unit {0}
-AreEntries given (e ∷ more) = (1 ≤ e.number) × (e.number ≤ given) × All (λ (x : Entry). x.number ≢ e.number) more × AreEntries given more
+AreEntries given (e ∷ more) = (1 ≤ e.number) × (e.number ≤ given)
+    × All (λ (x : Entry). x.number ≢ e.number) more × AreEntries given more

@@ -20,7 +20,8 @@ AreRead s = (i : ℕ) → IfSome (slice_get s.known.items i) (λ k. IsRead s.edi
 
 -- the definition that each name resolves to, with its id
 unfoldable pub scope_in : table.Scope → List ℕ → Option Numbered
-scope_in s name = option_map (λ k. numbered_of_known (rc_value k)) (option_and_then (λ i. slice_get s.known.items i) (index_of s.names name))
+scope_in s name = option_map (λ k. numbered_of_known (rc_value k))
+    (option_and_then (λ i. slice_get s.known.items i) (index_of s.names name))
 
 -- a tree's expansion by this grammar and dialect, in this scope, with so many levels of calls
 abbrev pub expanded_under : Grammar → table.Scope → Dialect → ℕ → Forest → Outcome Numbered

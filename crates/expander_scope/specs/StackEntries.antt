@@ -7,7 +7,8 @@ module _ {T : Type 0} where
   -- the index of the entry that a name resolves to, among entries that are given nearest first
   abbrev pub index_among : List (Entry T) → List ℕ → Option ℕ
   index_among [] name = None
-  index_among (e ∷ es) name = if same_text e.name name then Some (length es) else index_among es name
+  index_among (e ∷ es) name = if same_text e.name name then Some (length es)
+      else index_among es name
 
   -- each entry knows the index of the entry that it hides, if there is one
   abbrev pub KnowHidden : List (Entry T) → Type 0

@@ -52,7 +52,8 @@ local_at locals f c = if is_bare f then nearest locals c.name.sym else None
 
 -- what it finds there, or else outside of all lists
 abbrev pub resolved : (List ℕ → Option Numbered) → List Definition → Forest → Call → Option Numbered
-resolved scope locals f c = or_else (option_map unnumbered (local_at locals f c)) (scope (key_at f c))
+resolved scope locals f c = or_else (option_map unnumbered (local_at locals f c))
+    (scope (key_at f c))
 
 -- the look-up that it makes outside of all lists, or none
 abbrev pub lookups_of : (List ℕ → Option Numbered) → List Definition → Forest → Call

@@ -37,4 +37,5 @@ resolved_faults start starts faults = map (λ f. fault_at f.0 (resolved_by start
 
 -- the fault of a definition that starts here, at its name: none if the definition is valid
 abbrev pub told_if_broken : ℕ → MacroDef → List Fault
-told_if_broken start k = if is_some (rules_of k.rules).err then record { kind = BrokenDefinition; range = range_from start k.place } ∷ [] else []
+told_if_broken start k = if is_some (rules_of k.rules).err
+    then record { kind = BrokenDefinition; range = range_from start k.place } ∷ [] else []

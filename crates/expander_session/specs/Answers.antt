@@ -23,7 +23,8 @@ pub record CanEdit (text : List ℕ) (start stop : ℕ) (replacement : List ℕ)
 
 -- an edit that was made changes the text, and nothing else does
 abbrev pub text_after : List ℕ → Command → Answer → List ℕ
-text_after text (Edit start stop replacement) Edited = edited text start stop (string_bytes replacement)
+text_after text (Edit start stop replacement) Edited =
+    edited text start stop (string_bytes replacement)
 text_after text _ _ = text
 
 -- a text that was expanded and could be read becomes the newest of those read
@@ -33,7 +34,8 @@ reads_after text reads _ = reads
 
 -- the text after all commands, by their answers
 abbrev pub last_text : List ℕ → List Command → List Answer → List ℕ
-last_text text (command ∷ commands) (answer ∷ answers) = last_text (text_after text command answer) commands answers
+last_text text (command ∷ commands) (answer ∷ answers) =
+    last_text (text_after text command answer) commands answers
 last_text text _ _ = text
 
 -- the texts that were read after all commands, by their answers, the newest first
@@ -44,7 +46,8 @@ last_reads text reads _ _ = reads
 
 -- two replies show the same text, faults and origins, however many pieces were expanded for them
 abbrev pub ShowTheSame : Reply → Reply → Type 0
-ShowTheSame (Read e) (Read f) = (e.printed ≡ f.printed) × (e.faults ≡ f.faults) × (e.origins ≡ f.origins)
+ShowTheSame (Read e) (Read f) = (e.printed ≡ f.printed) × (e.faults ≡ f.faults)
+    × (e.origins ≡ f.origins)
 ShowTheSame (Unread fault) (Unread other) = fault ≡ other
 ShowTheSame _ _ = ⊥
 
@@ -66,19 +69,25 @@ module _ (layers : Layers) (depth : ℕ) where
 
   -- what may answer a command at a text, after these texts that were read, the newest first
   abbrev pub IsAnswer : List ℕ → List (List ℕ) → Command → Answer → Type 0
-  IsAnswer text reads (Edit start stop replacement) Edited = CanEdit text start stop (string_bytes replacement)
-  IsAnswer text reads (Edit start stop replacement) BadEdit = CanEdit text start stop (string_bytes replacement) → ⊥
-  IsAnswer text reads (Edit start stop replacement) (Refused Memory) = CanEdit text start stop (string_bytes replacement)
+  IsAnswer text reads (Edit start stop replacement) Edited =
+      CanEdit text start stop (string_bytes replacement)
+  IsAnswer text reads (Edit start stop replacement) BadEdit =
+      CanEdit text start stop (string_bytes replacement) → ⊥
+  IsAnswer text reads (Edit start stop replacement) (Refused Memory) =
+      CanEdit text start stop (string_bytes replacement)
   IsAnswer text reads Expand (Replied reply) = IsReplyTo layers depth text (last_looked reads) reply
   IsAnswer text reads Expand (Refused Memory) = ⊤
   IsAnswer text reads Expand (Refused Tokens) = NeedsTooMany layers depth text
-  IsAnswer text reads Expand (Refused Numbers) = NeedsNumbers (given reads) (last_trees reads) (meaning layers depth text)
+  IsAnswer text reads Expand (Refused Numbers) =
+      NeedsNumbers (given reads) (last_trees reads) (meaning layers depth text)
   IsAnswer text reads _ _ = ⊥
 
   -- each command has one answer, by the text and the texts that were read at its turn
   abbrev pub AreAnswers : List ℕ → List (List ℕ) → List Command → List Answer → Type 0
   AreAnswers text reads [] [] = ⊤
   AreAnswers text reads (command ∷ commands) (answer ∷ answers) =
-      IsAnswer text reads command answer × AreAnswers (text_after text command answer) (reads_after text reads answer) commands answers
+      IsAnswer text reads command answer
+      × AreAnswers (text_after text command answer)
+      (reads_after text reads answer) commands answers
   AreAnswers text reads [] (answer ∷ answers) = ⊥
   AreAnswers text reads (command ∷ commands) [] = ⊥

@@ -50,12 +50,15 @@ pub record Holds (q : Memo) (parts : Parts) : Type 0 where
 
 -- a chunk is emitted, its tokens and its keywords' faults at these spans; or nothing is emitted
 abbrev pub PutsChunk : Emitter → Emitter → ChunkState → List Span → List Span → Bool → Type 0
-PutsChunk old new part spans words true = (steps : List PlacedStep) (f : Span → Span) → IsChunkOf part (steps_of steps)
-    → spans ≡ map f part.tokens → words ≡ map f (word_places steps) → PutsOut old new (map (placed_with f) steps)
+PutsChunk old new part spans words true =
+    (steps : List PlacedStep) (f : Span → Span) → IsChunkOf part (steps_of steps)
+    → spans ≡ map f part.tokens → words ≡ map f (word_places steps)
+    → PutsOut old new (map (placed_with f) steps)
 PutsChunk old new part spans words false = new ≡ old
 
 -- the chunk of a piece that starts here is emitted, at its spans in the text; or nothing is
 abbrev pub EmitsCached : Emitter → Emitter → CachedText → ℕ → Offsets → Bool → Type 0
 EmitsCached old new part start starts true =
-    (steps : List PlacedStep) → IsCachedText part steps → PutsOut old new (resolved_steps start starts steps)
+    (steps : List PlacedStep) → IsCachedText part steps
+    → PutsOut old new (resolved_steps start starts steps)
 EmitsCached old new part start starts false = new ≡ old

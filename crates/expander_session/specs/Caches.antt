@@ -26,7 +26,8 @@ use Rattle.tt.specs.Tops.{Top}
 
 -- a plain piece, as the count sees it
 abbrev pub looked_plain : Memo → Looked
-looked_plain q = record { tree = (tree_of q).inner; finds = map (λ f. (f.0, option_map (λ (d : Numbered). d.definition.piece) f.1)) (finds_of q) }
+looked_plain q = record { tree = (tree_of q).inner;
+    finds = map (λ f. (f.0, option_map (λ (d : Numbered). d.definition.piece) f.1)) (finds_of q) }
 
 -- the plain pieces, as the count sees them: none before the first text that was read
 abbrev pub held_in : code.Cache → Option (List Looked)
@@ -68,4 +69,5 @@ module _ (world : World Definition) (depth : ℕ) where
     pub right : All (λ q. IsRight (numbers_in m.by_tree) (rc_value q)) m.plains.items
     pub hashes : AreHashes m.hashes.items m.plains.items
     pub sources : AreSegments m.sources
-    pub linked : AreLinked (plain_tops m.plains.items) (definition_tops m.definitions.items) (all_in m.sources) m.links.items
+    pub linked : AreLinked (plain_tops m.plains.items) (definition_tops m.definitions.items)
+        (all_in m.sources) m.links.items

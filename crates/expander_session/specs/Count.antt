@@ -36,7 +36,8 @@ finds_within a b = list_all (λ f. list_any (λ g. same_text f.0 g.0 && same_fou
 
 -- two pieces with equal trees, in which the same names find equal definitions
 abbrev pub is_same : Looked → Looked → Bool
-is_same a b = same_forest a.tree b.tree && (finds_within a.finds b.finds && finds_within b.finds a.finds)
+is_same a b = same_forest a.tree b.tree
+    && (finds_within a.finds b.finds && finds_within b.finds a.finds)
 
 abbrev pub earlier_pieces : Option (List Looked) → List Looked
 earlier_pieces None = []
@@ -44,4 +45,5 @@ earlier_pieces (Some ps) = ps
 
 -- the plain pieces that have no match among the earlier ones: all if there is no earlier text
 abbrev pub expanded_count : Option (List Looked) → List Looked → ℕ
-expanded_count earlier now = length (filter (λ p. not (list_any (is_same p) (earlier_pieces earlier))) now)
+expanded_count earlier now =
+    length (filter (λ p. not (list_any (is_same p) (earlier_pieces earlier))) now)

@@ -21,7 +21,8 @@ abbrev pub faults_at : List Told → List ℕ → List Fault
 faults_at [] numbers = []
 faults_at (t ∷ more) [] = []
 faults_at (t ∷ more) (n ∷ numbers) =
-    if nat_eq t.number n then record { kind = Unspellable; range = t.range } ∷ faults_at more numbers else faults_at more (n ∷ numbers)
+    if nat_eq t.number n then record { kind = Unspellable; range = t.range }
+    ∷ faults_at more numbers else faults_at more (n ∷ numbers)
 
 -- the numbers of the visible tokens that can't be printed
 abbrev pub numbers_left_out : List PlacedStep → List ℕ
@@ -40,13 +41,15 @@ words_told steps = map (fault_at NestedDefinition) (word_places steps)
 pub record HasOutput (out : Emitter) (steps : List PlacedStep) : Type 0 where
   pub printer : HasPut out.printer (steps_of steps)
   pub told : (more : List PlacedStep)
-      → faults_at (out.told.items ++ told_from (length (visible steps)) (visible more)) (numbers_left_out (steps ++ more))
+      → faults_at (out.told.items ++ told_from (length (visible steps)) (visible more))
+      (numbers_left_out (steps ++ more))
       ≡ unspellable (left_out spelling_before (visible (steps ++ more)))
   pub nested : out.nested.items ≡ words_told steps
 
 -- these events were emitted after all earlier ones
 abbrev pub PutsOut : Emitter → Emitter → List PlacedStep → Type 0
-PutsOut old new steps = (before : List PlacedStep) → HasOutput old before → HasOutput new (before ++ steps)
+PutsOut old new steps = (before : List PlacedStep) → HasOutput old before
+    → HasOutput new (before ++ steps)
 
 -- the tokens that these events print
 abbrev pub tokens_in : List PlacedStep → List PrintedToken

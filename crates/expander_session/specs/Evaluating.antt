@@ -38,11 +38,13 @@ pub record NeedsMore (old : Cache) (trees : List Forest) : Type 0 where
 
 -- trees that have an id keep it
 abbrev pub Grows : Evaluated → Evaluated → Type 0
-Grows old new = (t : Forest) (n : ℕ) → numbers_in old.numbers.by_tree t ≡ Some n → numbers_in new.numbers.by_tree t ≡ Some n
+Grows old new = (t : Forest) (n : ℕ) → numbers_in old.numbers.by_tree t ≡ Some n
+    → numbers_in new.numbers.by_tree t ≡ Some n
 
 -- the references of the pieces so far lead to these trees
 abbrev pub AreLinks : Evaluated → List Top → Type 0
-AreLinks now trees = LeadTo (plain_tops now.plains.items) (definition_tops now.numbers.definitions.items) now.links.items trees
+AreLinks now trees = LeadTo (plain_tops now.plains.items)
+    (definition_tops now.numbers.definitions.items) now.links.items trees
 
 -- one more definition may get an id and enter the scope
 pub record CanDefine (old : Cache) (now : Evaluation) : Type 0 where
@@ -52,20 +54,26 @@ pub record CanDefine (old : Cache) (now : Evaluation) : Type 0 where
   pub table_read : AllRead now.scope.edition now.taken.numbers.by_tree
   pub scope_read : AreRead now.scope
 
-module _ (world : World Definition) (edition : Edition) (depth : ℕ) (old : Cache) (layers : Layers) where
+module _ (world : World Definition) (edition : Edition) (depth : ℕ) (old : Cache)
+    (layers : Layers) where
   -- these are the pieces so far, with their results, and the trees of the definitions among them
   pub record IsEvaluated (trees : List Forest) (done : List Kept) (now : Evaluated) : Type 0 where
     pub numbers : HasNumbered old.given old.by_tree (trees_of old) trees now.numbers
     pub table_read : AllRead edition now.numbers.by_tree
-    pub plains : map (λ q. piece_of world depth (rc_value q)) now.plains.items ≡ filter_map held_of done
-    pub right : All (λ q. IsRight world depth (numbers_in now.numbers.by_tree) (rc_value q)) now.plains.items
+    pub plains : map (λ q. piece_of world depth (rc_value q)) now.plains.items
+        ≡ filter_map held_of done
+    pub right : All (λ q. IsRight world depth (numbers_in now.numbers.by_tree)
+        (rc_value q)) now.plains.items
     pub hashes : AreHashes now.hashes.items now.plains.items
     pub steps : HasOutput now.steps (flat_map output_of (map present done))
     pub faults : now.faults.items ≡ flat_map (member_faults layers) (map present done)
-    pub expanded : now.expanded ≡ length (filter (is_unmatched (map (λ q. piece_of world depth (rc_value q)) old.plains.items)) done)
+    pub expanded : now.expanded ≡ length
+        (filter (is_unmatched
+        (map (λ q. piece_of world depth (rc_value q)) old.plains.items)) done)
 
   -- and these are the definitions in scope, nearest first
-  pub record HasTaken (before : List Met) (trees : List Forest) (done : List Kept) (now : Evaluation) : Type 0 where
+  pub record HasTaken (before : List Met) (trees : List Forest) (done : List Kept)
+      (now : Evaluation) : Type 0 where
     pub met : HasMet now.scope before
     pub known : All (IsMet (numbered_by (numbers_in now.taken.numbers.by_tree))) before
     pub read : AreRead now.scope

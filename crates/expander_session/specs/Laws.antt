@@ -28,8 +28,10 @@ why_failed false (suc n) = CannotExpand
 -- alone, none begins there with the rest added; the same for what would be a call but for the
 -- `::` before it
 pub record IsParted (front rest : Forest) : Type 0 where
-  pub calls : (a b : Forest) → front ≡ joined a b → b ≢ empty → call_at b ≡ None → call_at (joined b rest) ≡ None
-  pub colons : (a b : Forest) → front ≡ joined a b → b ≢ empty → call_behind_colons b ≡ None → call_behind_colons (joined b rest) ≡ None
+  pub calls : (a b : Forest) → front ≡ joined a b → b ≢ empty → call_at b ≡ None
+      → call_at (joined b rest) ≡ None
+  pub colons : (a b : Forest) → front ≡ joined a b → b ≢ empty → call_behind_colons b ≡ None
+      → call_behind_colons (joined b rest) ≡ None
 
 -- one tree that ends the piece that `begun` begins
 abbrev pub is_ender : Forest → Forest → Bool

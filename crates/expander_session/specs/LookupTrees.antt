@@ -36,7 +36,8 @@ first_of c tree = get_by (λ k. same_top tree k.value) c.first
 
 -- where a branch leads, by the index
 unfoldable pub branch_of : code.LookupTree → ℕ → ℕ → ℕ → Option ℕ
-branch_of c at place id = get (λ x y. (nat_eq x.0 y.0 && nat_eq x.1 y.1) && nat_eq x.2 y.2) c.branches (at, place, id)
+branch_of c at place id =
+    get (λ x y. (nat_eq x.0 y.0 && nat_eq x.1 y.1) && nat_eq x.2 y.2) c.branches (at, place, id)
 
 -- the memo at which a search goes on behind a look-up that found `own`, and finds `known` now
 abbrev pub turn : (ℕ → ℕ → ℕ → Option ℕ) → ℕ → ℕ → ℕ → ℕ → Option ℕ
@@ -51,7 +52,8 @@ module _ (branch : ℕ → ℕ → ℕ → Option ℕ) (lookups : ℕ → List L
   abbrev pub Leads : List Look → ℕ → ℕ → Type 0
   Leads [] at place = slice_get (lookups at) place ≡ None
   Leads (f ∷ fs) at place = (own : Look) → slice_get (lookups at) place ≡ Some own →
-      (own.0 ≡ f.0) × ((next : ℕ) × ((turn branch at place (id_of own.1) (id_of f.1) ≡ Some next) × Leads fs next (suc place)))
+      (own.0 ≡ f.0) × ((next : ℕ)
+      × ((turn branch at place (id_of own.1) (id_of f.1) ≡ Some next) × Leads fs next (suc place)))
 
 -- a memo's own look-ups lead from the first memo of its tree to a memo
 pub record IsReached (c : code.LookupTree) (memos : List (Rc Memo Global)) (q : Memo) : Type 0 where
@@ -61,7 +63,8 @@ pub record IsReached (c : code.LookupTree) (memos : List (Rc Memo Global)) (q : 
 
 -- the index is of the memos before this one
 abbrev pub IsIndexOf : code.LookupTree → List (Rc Memo Global) → ℕ → Type 0
-IsIndexOf c memos n = c.is_whole ≡ true → (k : ℕ) (q : Rc Memo Global) → k < n → slice_get memos k ≡ Some q → IsReached c memos (rc_value q)
+IsIndexOf c memos n = c.is_whole ≡ true → (k : ℕ) (q : Rc Memo Global) → k < n
+    → slice_get memos k ≡ Some q → IsReached c memos (rc_value q)
 
 -- the first memo of each tree stays
 abbrev pub KeepsFirsts : code.LookupTree → code.LookupTree → Type 0

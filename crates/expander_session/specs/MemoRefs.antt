@@ -21,13 +21,16 @@ linked plains definitions (link.Definition i) = slice_get definitions i
 
 -- the reference, if there is one, leads to this tree
 abbrev pub LeadsTo : List Top → List Top → Option MemoRef → Top → Type 0
-LeadsTo plains definitions reference t = IfSome reference (λ l. linked plains definitions l ≡ Some t)
+LeadsTo plains definitions reference t =
+    IfSome reference (λ l. linked plains definitions l ≡ Some t)
 
 -- the references lead to these trees
 abbrev pub LeadTo : List Top → List Top → List MemoRef → List Top → Type 0
-LeadTo plains definitions links trees = map (linked plains definitions) links ≡ map (λ t. Some t) trees
+LeadTo plains definitions links trees = map (linked plains definitions) links
+    ≡ map (λ t. Some t) trees
 
 -- the reference of each cached piece leads to its tree
 abbrev pub AreLinked : List Top → List Top → List (Rc CachedPiece Global) → List MemoRef → Type 0
 AreLinked plains definitions sources links = (i : ℕ) (s : Rc CachedPiece Global) (l : MemoRef)
-    → slice_get sources i ≡ Some s → slice_get links i ≡ Some l → linked plains definitions l ≡ Some (rc_value (rc_value s).tree)
+    → slice_get sources i ≡ Some s → slice_get links i ≡ Some l
+    → linked plains definitions l ≡ Some (rc_value (rc_value s).tree)

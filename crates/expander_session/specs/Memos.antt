@@ -35,14 +35,16 @@ has_match scope tree held = list_any (λ q. is_match scope tree (rc_value q)) he
 
 -- the memo at this index is valid for this tree
 abbrev pub IsValidAt : (List ℕ → Option Numbered) → Top → List (Rc Memo Global) → ℕ → Type 0
-IsValidAt scope tree held i = IfSome (slice_get held i) (λ q. is_match scope tree (rc_value q) ≡ true)
+IsValidAt scope tree held i = IfSome (slice_get held i)
+    (λ q. is_match scope tree (rc_value q) ≡ true)
 
 -- these are the hashes of the trees of these memos, in order
 abbrev pub AreHashes : List ℕ → List (Rc Memo Global) → Type 0
 AreHashes hashes held = hashes ≡ map (λ (q : Rc Memo Global). tree_hash (tree_of (rc_value q))) held
 
 -- the memo at this index is valid for this tree in this scope, so there is one
-pub record IsMatchAt (scope : List ℕ → Option Numbered) (tree : Top) (held : List (Rc Memo Global)) (i : ℕ) : Type 0 where
+pub record IsMatchAt (scope : List ℕ → Option Numbered) (tree : Top) (held : List (Rc Memo Global))
+    (i : ℕ) : Type 0 where
   pub within : i < length held
   pub any : true ≡ list_any (λ q. is_match scope tree (rc_value q)) held
   pub found : IfSome (slice_get held i) (λ q. is_match scope tree (rc_value q) ≡ true)

@@ -20,7 +20,8 @@ use Rattle.expander_session.specs.TooMany.{NeedsTooManyIn}
 -- an expansion is what the text means: its printed text, its faults in order, the origins of its
 -- tokens with their texts, where each token is in the printed text, and how many of its plain
 -- pieces have no match among the earlier ones
-pub record IsExpansionOf (m : ReadMeaning) (earlier : Option (List Looked)) (e : Expanded) : Type 0 where
+pub record IsExpansionOf (m : ReadMeaning) (earlier : Option (List Looked))
+    (e : Expanded) : Type 0 where
   pub printed : e.printed ≡ m.text
   pub faults : e.faults ≡ m.faults
   pub origins : e.origins ≡ map origin_of m.tokens
@@ -37,7 +38,8 @@ IsMeant _ earlier _ = ⊥
 -- what a session replies whose last text that was read had these pieces: what its text means after
 -- these definitions
 abbrev pub IsReplyIn : Layers → ℕ → List Definition → List ℕ → Option (List Looked) → Reply → Type 0
-IsReplyIn layers depth initial text earlier reply = IsMeant (meaning_in layers depth initial text) earlier reply
+IsReplyIn layers depth initial text earlier reply =
+    IsMeant (meaning_in layers depth initial text) earlier reply
 
 -- the same of a text by itself
 abbrev pub IsReplyTo : Layers → ℕ → List ℕ → Option (List Looked) → Reply → Type 0
@@ -100,7 +102,8 @@ module _ (layers : Layers) where
   -- a reply, and the session after it
   abbrev pub Replies : {G : Type 0} → State G → State G → Reply → Type 0
   Replies old new reply =
-      IsReplyIn layers old.depth (definitions_of old.prelude) old.text old.held reply × StateAfter old new reply
+      IsReplyIn layers old.depth (definitions_of old.prelude) old.text old.held reply
+      × StateAfter old new reply
 
 -- why a session has no reply: no memory, more tokens than a tree may have, or no ids left
 abbrev pub HasCause : {G : Type 0} → Layers → State G → Refusal → Type 0

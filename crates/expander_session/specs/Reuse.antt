@@ -40,14 +40,17 @@ FoundIs P (name, None) = Unit {0}
 FoundIs P (name, Some d) = P d
 
 -- what holds of a cached piece: its result is its expansion in the scope of its look-ups
-pub record IsHeld (world : World Definition) (depth : ℕ) (table : Forest → ℕ → Type 0) (q : HeldPiece) : Type 0 where
+pub record IsHeld (world : World Definition) (depth : ℕ) (table : Forest → ℕ → Type 0)
+    (q : HeldPiece) : Type 0 where
   pub is : q.outcome
       ≡ expanded (numbered_world world) unnumbered (scope_of q.outcome.finds) depth q.tree
   pub finds : All (FoundIs (IsNumbered table)) q.outcome.finds
 
 -- the piece as the count sees it
 abbrev pub looked_at : Forest → Outcome Numbered → Looked
-looked_at tree outcome = record { tree = tree; finds = map (λ f. (f.0, option_map (λ (d : Numbered). d.definition.piece) f.1)) outcome.finds }
+looked_at tree outcome =
+    record { tree = tree;
+    finds = map (λ f. (f.0, option_map (λ (d : Numbered). d.definition.piece) f.1)) outcome.finds }
 
 -- a cached piece as the count sees it
 abbrev pub looked_held : HeldPiece → Looked

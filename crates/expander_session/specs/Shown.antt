@@ -10,7 +10,8 @@ use Rattle.expander_session.specs.Emitting.{tokens_in, faults_in}
 use Rattle.expander_model.specs.Printing.{bare, text_of}
 
 -- these events are shown with these faults of calls and definitions; so many pieces expanded
-pub record ShowsOutput (told : List Fault) (count : ℕ) (steps : List PlacedStep) (e : Expanded) : Type 0 where
+pub record ShowsOutput (told : List Fault) (count : ℕ) (steps : List PlacedStep)
+    (e : Expanded) : Type 0 where
   pub printed : e.printed ≡ text_of (tokens_in steps)
   pub faults : e.faults ≡ in_order (told ++ faults_in steps)
   pub origins : e.origins ≡ map origin_of (tokens_in steps)

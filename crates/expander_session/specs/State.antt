@@ -24,7 +24,8 @@ pub record State (G : Type 0) : Type 0 where
   pub depth : ℕ
   -- pieces of other texts, each a definition, in order: a later one of the same name is nearer
   pub prelude : List Forest
-  -- the plain pieces of the last text that was read, with their look-ups: none before the first text that was read
+  -- the plain pieces of the last text that was read, with their look-ups: none before the first
+  -- text that was read
   pub held : Option (List Looked)
   -- the definitions that it was expanded after, and then its own, with piece-relative spans
   pub trees : List Forest

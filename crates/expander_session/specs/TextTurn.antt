@@ -15,10 +15,12 @@ use Rattle.expander_session.specs.Reuse.{HeldPiece, IsHeld, matches, reused_outc
 
 -- a plain piece for which no cached piece is valid
 abbrev pub is_unmatched : List HeldPiece → Kept → Bool
-is_unmatched held (kept start before tree outcome) = not (list_any (matches (numbered_scope before) tree) held)
+is_unmatched held (kept start before tree outcome) =
+    not (list_any (matches (numbered_scope before) tree) held)
 is_unmatched held (met m) = false
 
-module _ (world : World Definition) (depth : ℕ) (number_of : Forest → ℕ) (held : List HeldPiece) where
+module _ (world : World Definition) (depth : ℕ) (number_of : Forest → ℕ)
+    (held : List HeldPiece) where
   -- a piece in the scope before it, with the result of a valid cached piece, or else a new one
   abbrev pub taken_of : List Met → Forest → Option Definition → Kept
   taken_of before piece (Some d) = met (met_of world depth number_of piece d)
@@ -49,7 +51,8 @@ pub record StandsInText (table : Forest → ℕ → Type 0) (m : Met) : Type 0 w
   pub tree : numbered.tree ≡ relative piece
 
 -- a plain piece of a text: where it starts, the definitions before it, and its expansion
-pub record IsPlain (world : World Definition) (depth : ℕ) (table : Forest → ℕ → Type 0) (at : ℕ) (before : List Met) (t : Forest) (o : Outcome Numbered) : Type 0 where
+pub record IsPlain (world : World Definition) (depth : ℕ) (table : Forest → ℕ → Type 0) (at : ℕ)
+    (before : List Met) (t : Forest) (o : Outcome Numbered) : Type 0 where
   pub met : All (StandsInText table) before
   pub piece : Forest
   pub from : StandFromFirst piece
@@ -59,11 +62,13 @@ pub record IsPlain (world : World Definition) (depth : ℕ) (table : Forest → 
 
 -- a piece of a text, plain or a definition
 abbrev pub IsKept : World Definition → ℕ → (Forest → ℕ → Type 0) → Kept → Type 0
-IsKept world depth table (kept start before tree outcome) = IsPlain world depth table start before tree outcome
+IsKept world depth table (kept start before tree outcome) =
+    IsPlain world depth table start before tree outcome
 IsKept world depth table (met m) = StandsInText table m
 
 -- a text that is read as these trees, whose definitions have ids among these, over a right cache
-pub record IsTurn (world : World Definition) (depth : ℕ) (text : List ℕ) (f : Forest) (number_of : Forest → ℕ) (trees : List Forest) (held : List HeldPiece) : Type 0 where
+pub record IsTurn (world : World Definition) (depth : ℕ) (text : List ℕ) (f : Forest)
+    (number_of : Forest → ℕ) (trees : List Forest) (held : List HeldPiece) : Type 0 where
   pub is_text : IsUtf8 text
   pub read : text_reading text ≡ Ok f
   pub apart : TellsApart number_of trees
@@ -76,14 +81,17 @@ numbering_of n f = with_trees n (definition_trees (pieces f))
 
 -- of those, the ids of the text's own definitions, which are cached
 abbrev pub kept_entries : Numbering → Forest → List Entry
-kept_entries n f = filter (λ (e : Entry). list_any (same_forest e.tree) (definition_trees (pieces f))) (numbering_of n f).entries
+kept_entries n f = filter
+    (λ (e : Entry). list_any (same_forest e.tree) (definition_trees (pieces f)))
+    (numbering_of n f).entries
 
 -- a tree of an entry, and its number
 abbrev pub InEntries : List Entry → Forest → ℕ → Type 0
 InEntries entries = Known (number_of entries) (map tree_of entries)
 
 -- a text that is read as these trees, over ids that were given and a cache that is right by them
-pub record IsNext (world : World Definition) (depth : ℕ) (n : Numbering) (held : List HeldPiece) (text : List ℕ) (f : Forest) : Type 0 where
+pub record IsNext (world : World Definition) (depth : ℕ) (n : Numbering) (held : List HeldPiece)
+    (text : List ℕ) (f : Forest) : Type 0 where
   pub entries : AreEntries n.given n.entries
   pub right : All (IsHeld world depth (InEntries n.entries)) held
   pub is_text : IsUtf8 text

@@ -15,7 +15,8 @@ bursts (defining d) = false
 
 -- a text that was read has such a call, after these definitions
 abbrev pub HasTooManyIn : Layers → ℕ → List Definition → Result Forest ReadFault → Type 0
-HasTooManyIn layers depth initial (Ok f) = list_any bursts (members_in layers depth initial f) ≡ true
+HasTooManyIn layers depth initial (Ok f) =
+    list_any bursts (members_in layers depth initial f) ≡ true
 HasTooManyIn layers depth initial (Err fault) = ⊥
 
 -- why a reply is refused for too many tokens: the text is read as too many, which doc comments

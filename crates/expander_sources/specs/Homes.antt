@@ -16,7 +16,8 @@ pub record Home : Type 0 where
 -- a home is coded as its two parts
 abbrev pub home_code : Coded Home
 home_code =
-    code_by (List ℕ × Edition) (coded× (coded_list coded_ℕ) edition_row.the_row.coded) (λ h. (h.root, h.edition))
+    code_by (List ℕ × Edition) (coded× (coded_list coded_ℕ) edition_row.the_row.coded)
+    (λ h. (h.root, h.edition))
     (λ p. record { root = p.0; edition = p.1 }) (λ _. refl)
 
 -- the text of the identifier that stands for the root of a crate
@@ -26,8 +27,11 @@ root_of word = root_mark ++ word
 -- a word that can stand for a crate: an identifier that is neither reserved nor `_`, and that what
 -- stands for the root is spelled as
 abbrev pub is_root_word : List ℕ → Bool
-is_root_word word = is_ident (chars word) && (not (is_among reserved word) && (not (same_text word (codes "_")) && is_rooted (root_of word)))
+is_root_word word = is_ident (chars word)
+    && (not (is_among reserved word)
+    && (not (same_text word (codes "_")) && is_rooted (root_of word)))
 
 -- the home with this root, if the word can be one
 abbrev pub home_named : List ℕ → Edition → Option Home
-home_named word edition = if is_root_word word then Some (record { root = word; edition = edition }) else None
+home_named word edition = if is_root_word word
+    then Some (record { root = word; edition = edition }) else None

@@ -40,12 +40,14 @@ first_span f = unwrap_or (first_place f) no_span
 -- the mark of an edition, `# [ $2021 ]`, before trees
 abbrev pub marked_with : Edition → Span → Forest → Forest
 marked_with edition at rest =
-    leaf (punct_at 35 at) (group (brackets_at Bracket at) (leaf (word_at (edition_word edition) at) empty) rest)
+    leaf (punct_at 35 at)
+    (group (brackets_at Bracket at) (leaf (word_at (edition_word edition) at) empty) rest)
 
 -- the arguments of a `macro` with a single rule
 abbrev pub arguments_at : List ℕ → Option Forest → Span → Forest
 arguments_at root None at = empty
-arguments_at root (Some arguments) at = group (brackets_at Parenthesis at) (rooted root arguments) empty
+arguments_at root (Some arguments) at = group (brackets_at Parenthesis at)
+    (rooted root arguments) empty
 
 -- the body of a definition
 abbrev pub body_at : List ℕ → Forest → Span → Forest
@@ -54,11 +56,13 @@ body_at root body at = group (brackets_at Brace at) (rooted root body) empty
 -- the keyword of a definition: `macro`, or `macro_rules !`
 abbrev pub keyword_at : Bool → Span → Forest
 keyword_at is_macro at =
-    if is_macro then leaf (word_at (codes "macro") at) empty else leaf (word_at (codes "macro_rules") at) (leaf (punct_at 33 at) empty)
+    if is_macro then leaf (word_at (codes "macro") at) empty
+    else leaf (word_at (codes "macro_rules") at) (leaf (punct_at 33 at) empty)
 
 -- the keyword, and the name of the definition as this key, before trees
 abbrev pub head_at : List ℕ → Definition → Span → Forest → Forest
-head_at key d at rest = joined (keyword_at d.is_macro at) (leaf (as_leaf.Ident (record d.name { sym = key })) rest)
+head_at key d at rest = joined (keyword_at d.is_macro at)
+    (leaf (as_leaf.Ident (record d.name { sym = key })) rest)
 
 -- what a definition has before its body
 abbrev pub own_arguments : List ℕ → Definition → Span → Forest
@@ -72,7 +76,8 @@ groups_at root d at = joined (own_arguments root d at) (body_at root d.body at)
 -- `$crate` standing for the crate. New tokens have the span of the definition's first token
 abbrev pub home_piece : Home → List ℕ → Definition → Forest
 home_piece h key d =
-    marked_with h.edition (first_span d.piece) (head_at key d (first_span d.piece) (groups_at (root_of h.root) d (first_span d.piece)))
+    marked_with h.edition (first_span d.piece)
+    (head_at key d (first_span d.piece) (groups_at (root_of h.root) d (first_span d.piece)))
 
 -- ---- picks
 

@@ -17,8 +17,8 @@ is_crate l = false
 abbrev pub root_at : List ℕ → Leaf → Leaf
 root_at root l = as_leaf.Ident (record { sym = root; span = span_of l; is_raw = No })
 
--- the trees with one identifier for each `$crate`, at the `$`. A `$` behind a `$` stands for itself, so it
--- begins no `$crate`
+-- the trees with one identifier for each `$crate`, at the `$`. A `$` behind a `$` stands for
+-- itself, so it begins no `$crate`
 abbrev pub rooted : List ℕ → Forest → Forest
 rooted root empty = empty
 rooted root (group d inner rest) = group d (rooted root inner) (rooted root rest)

@@ -14,7 +14,8 @@ use Rattle.expander_sources.specs.Sources.{name_of, name_range_of, range_of}
 use Rattle.expander_sources.specs.declared.import.Import.{Import}
 
 -- a name and ranges are those of a definition's piece
-pub record IsSourceItem (import : Import) (name : List ℕ) (name_range range : TextRange) : Type 0 where
+pub record IsSourceItem (import : Import) (name : List ℕ)
+    (name_range range : TextRange) : Type 0 where
   pub right : IsImport import
   pub named : name_of (import_piece import) ≡ Some name
   pub name_placed : name_range_of (import_piece import) ≡ Some name_range
@@ -23,9 +24,11 @@ pub record IsSourceItem (import : Import) (name : List ℕ) (name_range range : 
 -- no span of trees is before that of an earlier token
 abbrev pub AreInOrder : Forest → Type 0
 AreInOrder empty = Unit {0}
-AreInOrder (leaf l rest) = AllSpans (bare_pieces.IsFrom (span_of l).range.start) (leaf l rest) × AreInOrder rest
+AreInOrder (leaf l rest) = AllSpans (bare_pieces.IsFrom (span_of l).range.start) (leaf l rest)
+    × AreInOrder rest
 AreInOrder (group d inner rest) =
-    AllSpans (bare_pieces.IsFrom d.open_span.range.start) (group d inner rest) × AreInOrder inner × AreInOrder rest
+    AllSpans (bare_pieces.IsFrom d.open_span.range.start) (group d inner rest) × AreInOrder inner
+    × AreInOrder rest
 
 -- a span that is written in the text of this number
 pub record IsWrittenIn (t : ℕ) (s : Span) : Type 0 where

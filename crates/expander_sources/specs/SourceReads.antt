@@ -10,5 +10,6 @@ use Rattle.expander_sources.specs.declared.source.SourceRead.TheVariants.{Read, 
 -- a text of this number and home is read as this source, or has this reading fault
 abbrev pub IsSourceOf : ℕ → Option Home → List ℕ → SourceRead → Type 0
 IsSourceOf t home text (Read s) =
-    (f : Forest) × (text_reading text ≡ Ok f) × (s ≡ record { number = t; home = home; items = source_items t f })
+    (f : Forest) × (text_reading text ≡ Ok f)
+    × (s ≡ record { number = t; home = home; items = source_items t f })
 IsSourceOf t home text (Unread fault) = text_reading text ≡ Err fault

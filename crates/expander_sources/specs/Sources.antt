@@ -32,7 +32,8 @@ ends_module d rest = same_kind d.kind Brace && is_empty rest
 -- attributes and a visibility (The Rust Reference, "Modules")
 abbrev pub module_of : Forest → Option (Ident × Forest)
 module_of piece = do
-  behind ← after_word (codes "mod") (unwrap_or (after_pub (after_attributes piece)) (after_attributes piece))
+  behind ← after_word (codes "mod")
+      (unwrap_or (after_pub (after_attributes piece)) (after_attributes piece))
   (name, after_name) ← first_ident behind
   (d, inner, rest) ← first_group after_name
   ends_module d rest
@@ -50,7 +51,8 @@ first_attribute f = do
 -- one of the outer attributes of a piece begins with this word
 abbrev pub has_attribute : List ℕ → Forest → Bool
 has_attribute word (leaf (as_leaf.Punct p) (group d inner rest)) =
-    (is_char "#" p && same_kind d.kind Bracket) && (is_some (after_word word inner) || has_attribute word rest)
+    (is_char "#" p && same_kind d.kind Bracket)
+    && (is_some (after_word word inner) || has_attribute word rest)
 has_attribute word f = false
 
 -- a piece begins with `pub` behind its attributes
@@ -83,10 +85,12 @@ pub record Item : Type 0 where
 
 -- a piece of these modules, if it is a definition
 abbrev pub own_items : List (List ℕ) → Forest → List Item
-own_items modules piece = if is_some (definition_of piece) then record { modules = modules; piece = piece } ∷ [] else []
+own_items modules piece = if is_some (definition_of piece)
+    then record { modules = modules; piece = piece } ∷ [] else []
 
 -- what the pieces of a module have, if there is one
-abbrev pub in_module : (List (List ℕ) → Forest → List Item) → List (List ℕ) → Option (Ident × Forest) → List Item
+abbrev pub in_module : (List (List ℕ) → Forest → List Item) → List (List ℕ)
+    → Option (Ident × Forest) → List Item
 in_module has modules None = []
 in_module has modules (Some m) = flat_map (has (modules ++ m.0.sym ∷ [])) (cut m.1)
 
@@ -94,7 +98,8 @@ in_module has modules (Some m) = flat_map (has (modules ++ m.0.sym ∷ [])) (cut
 abbrev pub inner_items : ℕ → List (List ℕ) → Forest → List Item
 inner_items zero modules piece = []
 inner_items (suc levels) modules piece =
-    in_module (λ around p. own_items around p ++ inner_items levels around p) modules (module_of piece)
+    in_module (λ around p. own_items around p ++ inner_items levels around p) modules
+    (module_of piece)
 
 -- the definitions that a piece has: itself, or those of its modules, so many levels deep
 abbrev pub items_of : ℕ → List (List ℕ) → Forest → List Item
@@ -118,13 +123,16 @@ pub record Source : Type 0 where
 -- sources and their definitions are coded as their parts
 abbrev pub item_code : Coded Item
 item_code =
-    code_by (List (List ℕ) × Forest) (coded× (coded_list (coded_list coded_ℕ)) forest_code) (λ i. (i.modules, i.piece))
+    code_by (List (List ℕ) × Forest) (coded× (coded_list (coded_list coded_ℕ)) forest_code)
+    (λ i. (i.modules, i.piece))
     (λ p. record { modules = p.0; piece = p.1 }) (λ _. refl)
 
 abbrev pub source_code : Coded Source
 source_code =
-    code_by (ℕ × (Option Home × List Item)) (coded× coded_ℕ (coded× (coded_option home_code) (coded_list item_code)))
-    (λ s. (s.number, (s.home, s.items))) (λ p. record { number = p.0; home = p.1.0; items = p.1.1 }) (λ _. refl)
+    code_by (ℕ × (Option Home × List Item))
+    (coded× coded_ℕ (coded× (coded_option home_code) (coded_list item_code)))
+    (λ s. (s.number, (s.home, s.items)))
+        (λ p. record { number = p.0; home = p.1.0; items = p.1.1 }) (λ _. refl)
 
 -- the definition of this index: an empty piece where there are fewer
 abbrev pub item_at : List Item → ℕ → Item

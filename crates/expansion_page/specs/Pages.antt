@@ -28,7 +28,8 @@ abbrev pub fault_lines : List ℕ → Reply → List (List ℕ)
 fault_lines text (Read e) = map (fault_line text) e.faults
 fault_lines text (Unread f) = line_of text f.range.start (read_fault_words f.kind) ∷ []
 
--- where a printed token comes from: of the text on the page, number 0, the start, and of another text its number and the bytes
+-- where a printed token comes from: of the text on the page, number 0, the start, and of another
+-- text its number and the bytes
 abbrev pub shown_origin : ℕ → TextRange → Origin
 shown_origin text r = if nat_eq text 0 then Own r.start else Other text r.start r.«end»
 
@@ -44,7 +45,8 @@ pub record IsPrinted (names : List (List ℕ)) (e : Expanded) (printed : Printed
   pub are_names : map string_bytes printed.names.now ≡ names
   pub expanded : printed.expanded ≡ e.expanded
 
--- an expansion is shown if its printed text has at most `u32::MAX` bytes, with these names of sources
+-- an expansion is shown if its printed text has at most `u32::MAX` bytes, with these names of
+-- sources
 abbrev pub ShowsReply : List (List ℕ) → Reply → Option Printed → Type 0
 ShowsReply names (Read e) (Some printed) = IsPrinted names e printed
 ShowsReply names (Read e) None = 2 ^ 32 ≤ length e.printed
@@ -69,7 +71,8 @@ pub record IsFramed (page : Shown) (html : List ℕ) : Type 0 where
   pub is_page : IsPage frame page html
 
 -- the page of a reply to a text, where the sources have these names
-pub record IsNamedReplyPage (names : List (List ℕ)) (title text : List ℕ) (reply : Reply) (html : List ℕ) : Type 0 where
+pub record IsNamedReplyPage (names : List (List ℕ)) (title text : List ℕ) (reply : Reply)
+    (html : List ℕ) : Type 0 where
   pub page : Shown
   pub has_title : page.title.now ≡ title
   pub has_text : page.text.now ≡ text

@@ -7,7 +7,8 @@ use Rattle.ucd_derived.specs.Binary.{is_default_ignorable_code_point}
 abbrev pub is_within : ℕ → ℕ → ℕ → Bool
 is_within low high c = not (nat_lt c low) && not (nat_lt high c)
 
--- `&`, `<`, `>`, `"`, `'`, which have a meaning in HTML, and a carriage return, which its readers drop
+-- `&`, `<`, `>`, `"`, `'`, which have a meaning in HTML, and a carriage return, which its readers
+-- drop
 abbrev pub is_markup : ℕ → Bool
 is_markup c = c == 38 || c == 60 || c == 62 || c == 34 || c == 39 || c == 13
 
@@ -23,8 +24,8 @@ is_separator c = is_within 0x2028 0x2029 c
 abbrev pub is_annotation : ℕ → Bool
 is_annotation c = is_within 0xfff9 0xfffb c
 
--- what shows nothing by itself, or changes the order of what is beside it. Unicode's `Bidi_Control` is a part of
--- `Default_Ignorable_Code_Point`.
+-- what shows nothing by itself, or changes the order of what is beside it. Unicode's `Bidi_Control`
+-- is a part of `Default_Ignorable_Code_Point`.
 abbrev pub is_invisible : ℕ → Bool
 is_invisible c = is_default_ignorable_code_point c || is_separator c || is_annotation c
 
@@ -42,11 +43,13 @@ hex_digit n = if nat_lt n 10 then 48 + n else 65 + (n - 10)
 
 -- a number below 65,536 in four of them
 abbrev pub four_digits : ℕ → List ℕ
-four_digits n = hex_digit (n / 16 / 16 / 16) ∷ hex_digit (n / 16 / 16 % 16) ∷ hex_digit (n / 16 % 16) ∷ hex_digit (n % 16) ∷ []
+four_digits n = hex_digit (n / 16 / 16 / 16) ∷ hex_digit (n / 16 / 16 % 16)
+    ∷ hex_digit (n / 16 % 16) ∷ hex_digit (n % 16) ∷ []
 
 -- a number below 1,048,576 in four of them, or in five if it needs as many
 abbrev pub hex_digits : ℕ → List ℕ
-hex_digits n = if nat_lt n 65536 then four_digits n else hex_digit (n / 65536) ∷ four_digits (n % 65536)
+hex_digits n = if nat_lt n 65536 then four_digits n
+    else hex_digit (n / 65536) ∷ four_digits (n % 65536)
 
 -- a character by its number between the brackets U+27E6 and U+27E7, as `⟦U+202E⟧`
 abbrev pub mark_of : ℕ → List ℕ

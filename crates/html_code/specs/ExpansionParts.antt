@@ -1,5 +1,5 @@
--- An expansion on a page: its tokens with the numbers of their origins. What is between two tokens is white
--- space and the ends of folds.
+-- An expansion on a page: its tokens with the numbers of their origins. What is between two tokens
+-- is white space and the ends of folds.
 use Rattle.std.specs.Prelude.{◌≡◌, ℕ, zero, suc, ◌-◌, List, [], ◌∷◌, ◌++◌, Bool, true, false, Option, Some, None, ◌&&◌, codes, decimal, nat_eq, nat_lt, min, if◌then◌else◌, take, drop, chars}
 use Rattle.rustc_lexer.specs.Lexing.{tokens_of}
 use Rattle.rustc_lexer.specs.declared.token.Token.{Token}
@@ -19,9 +19,11 @@ abbrev pub blanks : ℕ → List ℕ
 blanks zero = []
 blanks (suc n) = codes "    " ++ blanks n
 
--- the end of a line, or of the first line of a fold; the next line is in so many blocks of code, of which at most 32 are shown
+-- the end of a line, or of the first line of a fold; the next line is in so many blocks of code, of
+-- which at most 32 are shown
 abbrev pub line_end : List ℕ → Bool → ℕ → List ℕ
-line_end end in_summary blocks = (if in_summary then codes "</summary><div>" else end) ++ blanks (min blocks 32)
+line_end end in_summary blocks = (if in_summary then codes "</summary><div>" else end)
+    ++ blanks (min blocks 32)
 
 abbrev pub fold_end : Bool → List ℕ
 fold_end in_summary = if in_summary then codes "</summary></details>" else codes "</div></details>"
@@ -67,13 +69,15 @@ abbrev pub origin_here : List Origin → Origin
 origin_here [] = Own 0
 origin_here (o ∷ os) = o
 
--- the attributes of a token by its origin's number, that of the token before, and the title of its origin
+-- the attributes of a token by its origin's number, that of the token before, and the title of its
+-- origin
 abbrev pub origin_attributes : (number last : ℕ) → List ℕ → Option (List ℕ)
 origin_attributes number last title =
-    if nat_lt 0 number && nat_eq (number - 1) last then None else Some (codes " o=" ++ (decimal number ++ title))
+    if nat_lt 0 number && nat_eq (number - 1) last then None
+    else Some (codes " o=" ++ (decimal number ++ title))
 
--- how far an expansion is: the last origin's number, the numbers and origins to come, whether the line is the first of its
--- fold, and whether a word that is shown as it is ends here
+-- how far an expansion is: the last origin's number, the numbers and origins to come, whether the
+-- line is the first of its fold, and whether a word that is shown as it is ends here
 pub record Place : Type 0 where
   pub in_summary : Bool
   pub last : ℕ
@@ -83,11 +87,13 @@ pub record Place : Type 0 where
 
 -- where an expansion begins
 abbrev pub beginning : List ℕ → List Origin → Place
-beginning numbers origins = record { in_summary = true; last = 0; numbers = numbers; origins = origins; behind = false }
+beginning numbers origins =
+    record { in_summary = true; last = 0; numbers = numbers; origins = origins; behind = false }
 
 -- the attributes of the token at a place, where the other texts have these names
 abbrev pub attributes_at : List (List ℕ) → Place → Option (List ℕ)
-attributes_at names place = origin_attributes (number_here place.numbers) place.last (title_of names (origin_here place.origins))
+attributes_at names place = origin_attributes (number_here place.numbers) place.last
+    (title_of names (origin_here place.origins))
 
 module _ (fold : List ℕ) (names : List (List ℕ)) where
   -- the parts of a token behind a gap
@@ -121,15 +127,18 @@ module _ (fold : List ℕ) (names : List (List ℕ)) where
   expansion_from gaps place rest [] = tag (fold_end place.in_summary) ∷ []
   expansion_from gaps place rest (t ∷ ts) =
       word_parts (first_gap gaps) place t.kind (take t.len rest)
-      ++ expansion_from (other_gaps gaps) (place_after (first_gap gaps) place t.kind (take t.len rest)) (drop t.len rest) ts
+      ++ expansion_from (other_gaps gaps)
+          (place_after (first_gap gaps) place t.kind (take t.len rest)) (drop t.len rest) ts
 
   -- the parts of a printed text with these gaps, and these origins of its tokens, of these numbers
-  abbrev pub expansion_parts : List Gap → (numbers : List ℕ) → List Origin → (printed : List ℕ) → List Part
+  abbrev pub expansion_parts : List Gap → (numbers : List ℕ) → List Origin → (printed : List ℕ)
+      → List Part
   expansion_parts gaps numbers origins printed =
       tag fold ∷ expansion_from gaps (beginning numbers origins) printed (tokens_of (chars printed))
 
   -- a token is added behind some gap
-  pub record AddsWord (old new : List ℕ) (from to : Place) (kind : TokenKind) (word : List ℕ) : Type 0 where
+  pub record AddsWord (old new : List ℕ) (from to : Place) (kind : TokenKind)
+      (word : List ℕ) : Type 0 where
     pub gap : Gap
     pub html : new ≡ old ++ html_of (word_parts gap from kind word)
     pub place : to ≡ place_after gap from kind word
@@ -137,7 +146,8 @@ module _ (fold : List ℕ) (names : List (List ℕ)) where
 -- the text of the tokens of a printed text, without the white space between them
 abbrev pub words_from : List ℕ → List Token → List ℕ
 words_from rest [] = []
-words_from rest (t ∷ ts) = (if is_white t.kind then [] else take t.len rest) ++ words_from (drop t.len rest) ts
+words_from rest (t ∷ ts) = (if is_white t.kind then [] else take t.len rest)
+    ++ words_from (drop t.len rest) ts
 
 abbrev pub words_of : List ℕ → List ℕ
 words_of printed = words_from printed (tokens_of (chars printed))

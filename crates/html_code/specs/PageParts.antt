@@ -20,17 +20,21 @@ fault_part number told = tag (link_tag number) ∷ isolated [] told ∷ tag (cod
 
 abbrev pub fault_parts : List ℕ → List Mark → List Part
 fault_parts numbers [] = []
-fault_parts numbers (f ∷ fs) = fault_part (number_here numbers) f.told.now ++ fault_parts (drop 1 numbers) fs
+fault_parts numbers (f ∷ fs) = fault_part (number_here numbers) f.told.now
+    ++ fault_parts (drop 1 numbers) fs
 
 -- an expansion of more than 20,000 printed tokens is shown folded
 abbrev pub fold_of : ℕ → List ℕ
-fold_of tokens = if nat_lt 20000 tokens then codes "<details><summary>" else codes "<details open><summary>"
+fold_of tokens = if nat_lt 20000 tokens then codes "<details><summary>"
+    else codes "<details open><summary>"
 
 abbrev pub counts_of : (bytes faults : ℕ) → Option Printed → List ℕ
 counts_of bytes faults None = codes "bytes: " ++ (decimal bytes ++ codes ", not read")
 counts_of bytes faults (Some printed) =
-    codes "bytes: " ++ (decimal bytes ++ (codes ", printed tokens: " ++ (decimal (length printed.origins.now)
-    ++ (codes ", expanded anew: " ++ (decimal printed.expanded ++ (codes ", faults: " ++ decimal faults))))))
+    codes "bytes: " ++ (decimal bytes
+    ++ (codes ", printed tokens: " ++ (decimal (length printed.origins.now)
+    ++ (codes ", expanded anew: "
+        ++ (decimal printed.expanded ++ (codes ", faults: " ++ decimal faults))))))
 
 -- a printed text of at most `u32::MAX` bytes, if any
 abbrev pub IsShort : Option Printed → Type 0
@@ -46,14 +50,18 @@ pub record AddsLinks (old new starts : List ℕ) (faults : List Mark) : Type 0 w
 module _ (frame : Frame) where
   -- the title twice: of the page, and as its heading
   abbrev pub head_parts : List ℕ → List Part
-  head_parts title = tag frame.head.now ∷ shown title ∷ tag frame.heading.now ∷ isolated [] title ∷ tag frame.counts.now ∷ []
+  head_parts title = tag frame.head.now ∷ shown title ∷ tag frame.heading.now ∷ isolated [] title
+      ∷ tag frame.counts.now ∷ []
 
-  -- what was printed is added: some white space between its tokens, and the numbers of their origins
+  -- what was printed is added: some white space between its tokens, and the numbers of their
+  -- origins
   abbrev pub AddsPrinted : (old new starts : List ℕ) → Option Printed → Type 0
   AddsPrinted old new starts None = new ≡ old ++ frame.unread.now
   AddsPrinted old new starts (Some printed) =
       (numbers : List ℕ) × AreOriginNumbers starts printed.origins.now numbers × (gaps : List Gap)
-      × (new ≡ old ++ html_of (expansion_parts (fold_of (length printed.origins.now)) (map string_bytes printed.names.now)
+      × (new ≡ old ++ html_of
+          (expansion_parts (fold_of (length printed.origins.now))
+          (map string_bytes printed.names.now)
       gaps numbers printed.origins.now printed.text.now))
 
   -- a page: its bytes up to the expansion, up to the links, and all
@@ -63,8 +71,11 @@ module _ (frame : Frame) where
     pub linked : List ℕ
     pub is_shown :
         AddsPrinted
-        (html_of (head_parts page.title.now) ++ counts_of (length page.text.now) (length page.faults.now) page.printed
-        ++ frame.source.now ++ html_of (source_parts cuts page.faults.now page.text.now) ++ frame.expansion.now)
+        (html_of (head_parts page.title.now)
+            ++ counts_of (length page.text.now) (length page.faults.now) page.printed
+        ++ frame.source.now ++ html_of (source_parts cuts page.faults.now page.text.now)
+            ++ frame.expansion.now)
         shown (token_starts page.text.now) page.printed
-    pub is_linked : AddsLinks (shown ++ frame.faults.now) linked (token_starts page.text.now) page.faults.now
+    pub is_linked : AddsLinks (shown ++ frame.faults.now) linked
+        (token_starts page.text.now) page.faults.now
     pub is_all : html ≡ linked ++ frame.foot.now

@@ -7,8 +7,9 @@ pub data Part : Type 0 where
   tag : List ℕ → Part
   -- a text, which is escaped
   shown : List ℕ → Part
-  -- a text, which is escaped, in an element of its own with these attributes. The order of what is in it and of what is
-  -- outside do not depend on each other. (The HTML Standard, "The bdi element")
+  -- a text, which is escaped, in an element of its own with these attributes. The order of what is
+  -- in it and of what is outside do not depend on each other. (The HTML Standard, "The bdi
+  -- element")
   isolated : (attributes text : List ℕ) → Part
 
 -- what follows the attributes of an element with this text

@@ -1,4 +1,5 @@
--- A token on a page: as it is where its characters show where it begins and ends, else in an element of its own.
+-- A token on a page: as it is where its characters show where it begins and ends, else in an
+-- element of its own.
 use Rattle.std.specs.Prelude.{◌≡◌, ℕ, List, [], ◌∷◌, Bool, true, false, Option, Some, None, not, ◌&&◌, ◌||◌, ◌==◌, codes, if◌then◌else◌}
 use Rattle.std.specs.List.{list_all}
 use Rattle.html_code.specs.Escaping.{is_within}
@@ -14,7 +15,8 @@ is_word_byte b = is_within 48 57 b || is_within 65 90 b || is_within 97 122 b ||
 abbrev pub is_sign_byte : ℕ → Bool
 is_sign_byte b = is_within 33 126 b && not (is_word_byte b)
 
--- one that is printed, a space, a tab, a line feed or a carriage return: none of them is written from right to left
+-- one that is printed, a space, a tab, a line feed or a carriage return: none of them is written
+-- from right to left
 abbrev pub is_plain_byte : ℕ → Bool
 is_plain_byte b = is_within 32 126 b || b == 9 || b == 10 || b == 13
 

@@ -55,7 +55,8 @@ wrong_words fault.Pick = codes "after `prelude`, N or N:I,I.. comes after each s
 -- a line with a word, a name and a range
 abbrev pub place_line : List ℕ → List ℕ → TextRange → List ℕ
 place_line what name place =
-    what ++ (codes " " ++ (name ++ (codes " " ++ (decimal place.start ++ (codes " " ++ (decimal place.«end» ++ (10 ∷ [])))))))
+    what ++ (codes " " ++ (name
+    ++ (codes " " ++ (decimal place.start ++ (codes " " ++ (decimal place.«end» ++ (10 ∷ [])))))))
 
 abbrev pub fault_line : Fault → List ℕ
 fault_line f = place_line (codes "fault") (kind_name f.kind) f.range
