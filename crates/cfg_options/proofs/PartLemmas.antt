@@ -6,7 +6,7 @@ use Rattle.tt_data.specs.declared.leaf.Leaf.{Leaf}
 use Rattle.tt_data.specs.declared.leaf.Leaf.TheVariants as as_leaf
 use Rattle.bridge.specs.Text.{is_punct}
 use Rattle.small_grammar.specs.Text.{is_empty}
-use Rattle.textual_scope.specs.Conditions.{cut_at_commas}
+use Rattle.cfg_options.specs.Conditions.{cut_at_commas}
 use Rattle.cfg_options.specs.Lists.{after_tree, begins_with_comma}
 use Rattle.cfg_options.specs.Parts.{after_part, first_part}
 

@@ -11,8 +11,8 @@ use Rattle.tt_data.specs.declared.leaf.Leaf.{Leaf}
 use Rattle.tt_data.specs.declared.leaf.Leaf.TheVariants as as_leaf
 use Rattle.bridge.specs.Text.{is_punct, same_kind}
 use Rattle.small_grammar.specs.Text.{is_empty, same_text, ◌>>=◌, ◌>>◌}
-use Rattle.expander_model.specs.Definitions.{or_else}
-use Rattle.textual_scope.specs.Conditions.{Options, cut_at_commas, each_value, list_behind, listed, listed_values, negated, option_value, parenthesized, predicate_value, value_within}
+use Rattle.cfg_options.specs.Conditions.{or_else}
+use Rattle.cfg_options.specs.Conditions.{Options, cut_at_commas, each_value, list_behind, listed, listed_values, negated, option_value, parenthesized, predicate_value, value_within}
 use Rattle.cfg_options.specs.OpenLists.{begun, list_of}
 use Rattle.cfg_options.specs.Parts.{open_value, value_of_rest, with_value}
 use Rattle.cfg_options.specs.declared.predicate.SoFar.TheVariants.{All, Any, Not}

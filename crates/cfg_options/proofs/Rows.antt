@@ -13,7 +13,7 @@ use Rattle.tt_data.specs.declared.leaf.LitKind.{LitKind}
 use Rattle.tt_data.specs.declared.leaf.LitKind.TheVariants.{ByteStr, CStr, Integer, Str, StrRaw}
 use Rattle.tt_data.specs.declared.leaf.Spacing.TheVariants.{Alone}
 use Rattle.tt_data.specs.declared.span.Span.{Span}
-use Rattle.textual_scope.specs.Conditions.{Options}
+use Rattle.cfg_options.specs.Conditions.{Options}
 use Rattle.cfg_options.specs.Misread.{misread}
 use Rattle.cfg_options.specs.Strings.{string_text}
 

@@ -4,8 +4,8 @@ use Rattle.std.specs.Bool.{IsTrue}
 use Rattle.tt_data.specs.Forest.{Forest, empty, leaf, group, size}
 use Rattle.tt_data.specs.Literals.{LiteralParts}
 use Rattle.small_grammar.specs.Text.{is_empty}
-use Rattle.expander_model.specs.Definitions.{or_else}
-use Rattle.textual_scope.specs.Conditions.{Options, list_behind, option_value, predicate_value}
+use Rattle.cfg_options.specs.Conditions.{or_else}
+use Rattle.cfg_options.specs.Conditions.{Options, list_behind, option_value, predicate_value}
 use Rattle.cfg_options.specs.OpenLists.{begun, left_in, list_of, lists_value, value_around, weight, whole_value}
 use Rattle.cfg_options.specs.Parts.{after_part, first_part, open_value}
 use Rattle.cfg_options.specs.declared.predicate.OpenList.{OpenList}

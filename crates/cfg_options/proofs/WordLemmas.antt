@@ -8,7 +8,7 @@ use Rattle.tt_data.specs.declared.leaf.Leaf.TheVariants as as_leaf
 use Rattle.tt.specs.FirstTrees.{first_ident}
 use Rattle.bridge.specs.Text.{is_char}
 use Rattle.small_grammar.specs.Text.{◌>>=◌, ◌>>◌}
-use Rattle.textual_scope.specs.Conditions.{is_option_name, option_in}
+use Rattle.cfg_options.specs.Conditions.{is_option_name, option_in}
 use Rattle.cfg_options.specs.Lists.{value_in}
 use Rattle.cfg_options.specs.Strings.{string_text}
 

@@ -4,8 +4,8 @@ use Rattle.std.specs.Prelude.{Some, None, codes, if◌then◌else◌}
 use Rattle.tt_data.specs.Forest.{Forest, empty, size}
 use Rattle.tt_data.specs.declared.span.Span.{Span}
 use Rattle.small_grammar.specs.Text.{is_empty}
-use Rattle.expander_model.specs.Definitions.{or_else}
-use Rattle.textual_scope.specs.Conditions.{attribute_keeps, cut_at_commas, is_kept, predicate_value}
+use Rattle.cfg_options.specs.Conditions.{or_else}
+use Rattle.cfg_options.specs.Conditions.{attribute_keeps, cut_at_commas, is_kept, predicate_value}
 use Rattle.cfg_options.specs.Misread.{misread, misread_within, span_of_name}
 use Rattle.cfg_options.specs.Options.{options_of}
 use Rattle.cfg_options.specs.Parts.{after_part, first_part}

@@ -1,4 +1,5 @@
 -- what the public contracts rest on
+pub mod Conditions
 pub mod Strings
 pub mod Options
 pub mod Words

@@ -10,8 +10,8 @@ use Rattle.tt_data.specs.declared.span.Span.{Span}
 use Rattle.bridge.specs.Text.{is_char, is_punct, same_kind}
 use Rattle.small_grammar.specs.Text.{same_text, ◌>>=◌, ◌>>◌}
 use Rattle.tt.specs.FirstTrees.{first_ident}
-use Rattle.expander_model.specs.Definitions.{or_else}
-use Rattle.textual_scope.specs.Conditions.{Options, listed, predicate_value}
+use Rattle.cfg_options.specs.Conditions.{or_else}
+use Rattle.cfg_options.specs.Conditions.{Options, listed, predicate_value}
 
 -- a colon is at the beginning
 abbrev pub begins_with_colon : Forest → Bool

@@ -3,8 +3,8 @@ use Rattle.std.specs.Prelude.{ℕ, ◌+◌, ◌<◌, ◌≤◌, Bool, true, fals
 use Rattle.std.specs.Prelude.{[], ◌∷◌, Option, option_map}
 use Rattle.tt_data.specs.Forest.{Forest, empty, size}
 use Rattle.small_grammar.specs.Text.{◌>>=◌}
-use Rattle.expander_model.specs.Definitions.{or_else}
-use Rattle.textual_scope.specs.Conditions.{cut_at_commas, list_behind, predicate_value}
+use Rattle.cfg_options.specs.Conditions.{or_else}
+use Rattle.cfg_options.specs.Conditions.{cut_at_commas, list_behind, predicate_value}
 use Rattle.cfg_options.specs.Options.{options_of}
 use Rattle.cfg_options.specs.Parts.{open_value, value_of_rest, with_value}
 use Rattle.cfg_options.specs.Strings.{string_text}

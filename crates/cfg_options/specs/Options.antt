@@ -2,7 +2,7 @@
 use Rattle.std.specs.Prelude.{◌≡◌, ℕ, Bool, true, false, ◌&&◌, List, Option, Some, None, option_map}
 use Rattle.std.specs.List.{list_any}
 use Rattle.small_grammar.specs.Text.{same_text}
-use Rattle.textual_scope.specs.Conditions.{Options}
+use Rattle.cfg_options.specs.Conditions.{Options}
 use Rattle.cfg_options.specs.declared.options.CfgOption.{CfgOption}
 use Rattle.cfg_options.specs.declared.options.CfgOptions.{CfgOptions}
 

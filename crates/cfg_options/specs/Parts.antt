@@ -4,7 +4,7 @@ use Rattle.std.specs.Prelude.{Some, None, if◌then◌else◌}
 use Rattle.tt_data.specs.Forest.{Forest, empty, leaf, group}
 use Rattle.bridge.specs.Text.{is_punct}
 use Rattle.small_grammar.specs.Text.{◌>>=◌}
-use Rattle.textual_scope.specs.Conditions.{cut_at_commas}
+use Rattle.cfg_options.specs.Conditions.{cut_at_commas}
 use Rattle.cfg_options.specs.declared.predicate.SoFar.{SoFar}
 use Rattle.cfg_options.specs.declared.predicate.SoFar.TheVariants.{All, Any, Not, NotOf}
 use Rattle.cfg_options.specs.declared.predicate.OpenList.{OpenList}

@@ -7,7 +7,7 @@ use Rattle.bridge.specs.Reading.{reading}
 use Rattle.bridge.specs.TokenSteps.{text_steps}
 use Rattle.bridge.specs.declared.reading.outcome.ReadFault.{ReadFault}
 use Rattle.small_grammar.specs.Text.{same_text}
-use Rattle.textual_scope.specs.Conditions.{Options, option_in}
+use Rattle.cfg_options.specs.Conditions.{Options, option_in}
 use Rattle.cfg_options.specs.Options.{same_value}
 use Rattle.cfg_options.specs.Strings.{string_text}
 use Rattle.cfg_options.specs.declared.fault.CfgFault.{CfgFault}

@@ -1,10 +1,9 @@
-//! Conditional compilation: which options are set, the value of predicates, and which pieces of a
-//! list are left out. What is answered is that of `Conditions.antt` of `textual_scope`.
+//! Conditional compilation: which options are set, the value of predicates, and which attributes
+//! keep what they stand at.
 #![tactic(auto)]
 
 mod attributes;
 mod fault;
-mod items;
 mod options;
 mod parts;
 mod pieces;
@@ -14,6 +13,5 @@ mod strings;
 mod words;
 
 pub use fault::CfgFault;
-pub use items::is_whole_item;
 pub use options::CfgOptions;
 pub use strings::string_text;

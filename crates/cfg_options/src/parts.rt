@@ -2,7 +2,7 @@
 ghost use Rattle.std.specs.Prelude.{◌≡◌};
 ghost use Rattle.cfg_options.specs.Lists.{after_tree, begins_with_comma};
 ghost use Rattle.cfg_options.specs.Parts.{after_part, first_part};
-ghost use Rattle.textual_scope.specs.Conditions.{after_name, list_behind, parenthesized};
+ghost use Rattle.cfg_options.specs.Conditions.{after_name, list_behind, parenthesized};
 
 use tt::TtIter;
 use tt_data::DelimiterKind;

@@ -1,7 +1,7 @@
 //! The value of a predicate, without recursion: the lists that are open are in memory.
 ghost use Rattle.std.specs.Prelude.{◌≡◌, ◌++◌, ◌∷◌, [], Bool, IfOk, Option};
 ghost use Rattle.tt_data.specs.Forest.{Forest, empty};
-ghost use Rattle.textual_scope.specs.Conditions.{predicate_value};
+ghost use Rattle.cfg_options.specs.Conditions.{predicate_value};
 ghost use Rattle.cfg_options.specs.Options.{options_of};
 ghost use Rattle.cfg_options.specs.Parts.{ended, open_value, with_value};
 ghost use Rattle.cfg_options.specs.OpenLists.{IsLess, IsWithin, list_of, lists_value, turn_value};

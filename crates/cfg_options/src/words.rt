@@ -1,8 +1,8 @@
 //! Options as they are written: in a predicate, and in a word of a command line.
 ghost use Rattle.std.specs.Prelude.{◌≡◌, IfOk, option_map};
 ghost use Rattle.tt_data.specs.Lent.{ident_lent, literal_lent};
-ghost use Rattle.textual_scope.specs.Conditions.{constant, is_option_name, later_reserved};
-ghost use Rattle.textual_scope.specs.Conditions.{option_in, option_value};
+ghost use Rattle.cfg_options.specs.Conditions.{constant, is_option_name, later_reserved};
+ghost use Rattle.cfg_options.specs.Conditions.{option_in, option_value};
 ghost use Rattle.small_grammar.specs.Tokens.{is_among};
 ghost use Rattle.cfg_options.specs.Lists.{value_in};
 ghost use Rattle.cfg_options.specs.Options.{options_of, written};

@@ -13,7 +13,7 @@ use Rattle.expander_model.specs.declared.fault.FaultKind.{FaultKind}
 use Rattle.expander_model.specs.declared.fault.FaultKind.TheVariants.{CannotExpand}
 use Rattle.expander_model.specs.CallSteps.{bare_call, call_behind_colons, crate_call, call_at, key_at}
 use Rattle.expander_model.specs.Calls.{Path, bare, from_crate, other, call, marked}
-use Rattle.expander_model.specs.Definitions.{or_else}
+use Rattle.cfg_options.specs.Conditions.{or_else}
 use Rattle.bridge.specs.Text.{is_char, is_visible}
 use Rattle.small_grammar.specs.Text.{◌>>◌}
 use Rattle.expander_model.specs.Expansion.{World, Outcome, Deeper, CallSite, placed, just, followed_by, found, grouped, fitted, unbroken, search_calls, expansion}

@@ -10,7 +10,7 @@ use Rattle.tt_data.specs.declared.leaf.Punct.{Punct}
 use Rattle.expander_model.specs.declared.call.Call.{Call}
 use Rattle.expander_model.specs.CallSteps.{bare_call, call_behind_colons, crate_call, call_at}
 use Rattle.expander_model.specs.Calls.{is_colons, is_root}
-use Rattle.expander_model.specs.Definitions.{or_else}
+use Rattle.cfg_options.specs.Conditions.{or_else}
 use Rattle.expander_session.specs.Laws.{IsParted}
 use Rattle.small_grammar.specs.Text.{◌>>◌}
 use Rattle.bridge.specs.Text.{is_char, is_visible}

@@ -13,7 +13,7 @@ use Rattle.tt_data.specs.declared.leaf.Punct.{Punct}
 use Rattle.expander_model.specs.declared.call.Call.{Call}
 use Rattle.expander_model.specs.CallSteps.{bare_call, call_after, call_behind_colons, group_call}
 use Rattle.expander_model.specs.Calls.{is_root}
-use Rattle.expander_model.specs.Definitions.{or_else}
+use Rattle.cfg_options.specs.Conditions.{or_else}
 
 -- no `::` where the first punct is no colon
 no_colons : (p : Punct) (rest : Forest) → is_char ":" p ≡ false → call_behind_colons (leaf (as_leaf.Punct p) rest) ≡ None

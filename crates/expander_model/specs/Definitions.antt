@@ -11,6 +11,7 @@ use Rattle.tt_data.specs.declared.leaf.Leaf.TheVariants as as_leaf
 use Rattle.tt.specs.FirstTrees.{first_ident, first_punct, first_group}
 use Rattle.bridge.specs.Text.{same_kind, is_char}
 use Rattle.small_grammar.specs.Text.{same_text, has_text, ◌>>=◌, ◌>>◌, is_empty}
+use Rattle.cfg_options.specs.Conditions.{or_else}
 
 -- a definition of a macro
 pub record Definition : Type 0 where
@@ -117,10 +118,6 @@ macro_of piece f = do
   (name, after_name) ← first_ident after
   (arguments, body) ← macro_body after_name
   Some (record { name = name; arguments = arguments; body = body; is_macro = true; piece = piece })
-
-abbrev pub or_else : {X : Type 0} → Option X → Option X → Option X
-or_else None y = y
-or_else (Some x) y = Some x
 
 -- the definition that a piece is, or none if it is plain
 abbrev pub definition_of : Forest → Option Definition

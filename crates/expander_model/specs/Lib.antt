@@ -12,6 +12,8 @@ pub mod Meaning
 -- what the meaning of a text is built on
 pub mod EditionMarks
 pub mod World
+-- what conditional compilation leaves out; no meaning takes it yet
+pub mod WholeItems
 -- what the count of pieces and the laws rest on
 pub mod EqualTrees
 pub mod CallSteps
@@ -23,4 +25,5 @@ pub mod DefinitionTrees
 pub mod Held
 pub mod HashedTrees
 pub mod Splitting
+pub mod ItemSteps
 pub mod WalkSteps

@@ -13,7 +13,8 @@ use Rattle.tt_data.specs.declared.delimiter.DelimiterKind.TheVariants.{Brace}
 use Rattle.tt_data.specs.declared.leaf.Leaf.{Leaf}
 use Rattle.expander_model.specs.declared.fault.FaultKind.TheVariants.{CannotExpand, BrokenDefinition, RecursionLimit}
 use Rattle.expander_model.specs.Calls.{Path, bare, from_crate, other, Marked, none, token, inside, call, marked, unmarked, key_of}
-use Rattle.expander_model.specs.Definitions.{Definition, definition_of, nearest, or_else}
+use Rattle.expander_model.specs.Definitions.{Definition, definition_of, nearest}
+use Rattle.cfg_options.specs.Conditions.{or_else}
 use Rattle.expander_model.specs.Expansion.{World, Outcome, CallSite, just, followed_by, grouped, faulted, found, bursting, stays, before_group, whole_call}
 use Rattle.expander_model.specs.Pieces.{cut}
 use Rattle.expander_model.specs.PieceStates.{after_call, after_group, after_leaf, holds_items, is_at_start, is_dropped}

@@ -36,7 +36,7 @@ pub enum Beginning<'a> {
 }
 
 // Whether two puncts are a `::`.
-fn is_colons(first: Punct, second: Punct) -> bool
+pub(crate) fn is_colons(first: Punct, second: Punct) -> bool
     ensures { result ≡ is_colons first second }
 {
     first.char == ':' && second.char == ':' && first.spacing != Spacing::Alone
@@ -59,7 +59,7 @@ fn group_call<'a>(name: IdentRef<'a>, after_bang: TtIter<'a>) -> Option<Call<'a>
 }
 
 // A name, `!` and a visible group.
-fn bare_call<'a>(trees: &TtIter<'a>) -> Option<Call<'a>>
+pub(crate) fn bare_call<'a>(trees: &TtIter<'a>) -> Option<Call<'a>>
     ensures { result ≡ bare_call trees.now }
 {
     let (name, after_name) = trees.lent_ident()?;

@@ -100,7 +100,7 @@ pub fn after_pub<'a>(trees: &TtIter<'a>) -> Option<TtIter<'a>>
 }
 
 // Whether the trees are exactly a `;`.
-fn is_semicolon(trees: &TtIter<'_>) -> bool
+pub(crate) fn is_semicolon(trees: &TtIter<'_>) -> bool
     ensures { result ≡ is_semicolon trees.now }
 {
     match trees.first_punct() {

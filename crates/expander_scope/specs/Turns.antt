@@ -11,7 +11,8 @@ use Rattle.tt_data.specs.declared.edition.Edition.{Edition}
 use Rattle.tt_data.specs.declared.span.Span.{Span}
 use Rattle.mbe.specs.Grammar.{Grammar}
 use Rattle.expander_model.specs.CallSteps.{call_at, call_behind_colons, key_at}
-use Rattle.expander_model.specs.Definitions.{Definition, nearest, or_else}
+use Rattle.expander_model.specs.Definitions.{Definition, nearest}
+use Rattle.cfg_options.specs.Conditions.{or_else}
 use Rattle.expander_model.specs.Expansion.{World, Outcome, PlacedStep, just}
 use Rattle.expander_model.specs.Held.{Numbered, unnumbered}
 use Rattle.expander_model.specs.PieceStates.{after_call, after_group, after_name, is_dropped}

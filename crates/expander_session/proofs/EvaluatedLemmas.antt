@@ -10,7 +10,8 @@ use Rattle.tt_data.specs.declared.edition.Edition.{Edition}
 use Rattle.expander_model.specs.declared.dialect.Dialect.{Dialect}
 use Rattle.expander_session.specs.Count.{expanded_count, looked_of}
 use Rattle.expander_model.specs.EqualTrees.{same_forest}
-use Rattle.expander_model.specs.Definitions.{Definition, definition_of, or_else}
+use Rattle.expander_model.specs.Definitions.{Definition, definition_of}
+use Rattle.cfg_options.specs.Conditions.{or_else}
 use Rattle.expander_model.specs.Held.{HasNumber, Kept, Met, StandFromFirst, Stands, Tells, mets_after, present}
 use Rattle.expander_model.specs.DefinitionTrees.{definition_trees}
 use Rattle.expander_session.specs.Layered.{layers}

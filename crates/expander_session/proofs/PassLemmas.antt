@@ -14,7 +14,8 @@ use Rattle.expander_session.specs.Agreement.{scope_of}
 use Rattle.expander_scope.specs.Interning.{AllRead, AreInTable, known_in, numbers_in}
 use Rattle.expander_model.specs.HashedTrees.{own_top, tree_hash}
 use Rattle.expander_model.specs.EqualTrees.{same_forest}
-use Rattle.expander_model.specs.Definitions.{Definition, definition_of, or_else}
+use Rattle.expander_model.specs.Definitions.{Definition, definition_of}
+use Rattle.cfg_options.specs.Conditions.{or_else}
 use Rattle.expander_scope.specs.Editions.{IsRead}
 use Rattle.expander_model.specs.Expansion.{Outcome, World}
 use Rattle.expander_model.specs.Held.{IsMet, Kept, Met, Numbered, first_place, kept, kept_of, met, met_of, numbered_scope, numbered_world, present, unnumbered, with_met}

@@ -8,7 +8,8 @@ use Rattle.tt_data.specs.declared.delimiter.Delimiter.{Delimiter}
 use Rattle.tt_data.specs.declared.leaf.Ident.{Ident}
 use Rattle.tt_data.specs.declared.leaf.Punct.{Punct}
 use Rattle.expander_model.specs.Calls.{Path, bare, from_crate, other, Marked, none, token, inside, call, marked, unmarked, key_of}
-use Rattle.expander_model.specs.Definitions.{Definition, nearest, or_else}
+use Rattle.expander_model.specs.Definitions.{Definition, nearest}
+use Rattle.cfg_options.specs.Conditions.{or_else}
 use Rattle.expander_model.specs.Pieces.{cut}
 use Rattle.expander_model.specs.Expansion.{World, CallSite, just, followed_by, grouped, found, bursting, before_group, whole_call}
 use Rattle.expander_model.specs.PieceStates.{after_call, after_group, after_leaf}

@@ -17,7 +17,8 @@ use Rattle.small_grammar.specs.Text.{same_text}
 use Rattle.expander_model.specs.declared.fault.FaultKind.TheVariants.{CannotExpand, BrokenDefinition, RecursionLimit}
 use Rattle.expander_model.specs.Calls.{Path, bare, from_crate, other, Marked, none, token, inside, call, marked, unmarked, key_of}
 use Rattle.expander_model.specs.Changes.{outcome_with, Changes, ScopeChange}
-use Rattle.expander_model.specs.Definitions.{Definition, nearest, or_else}
+use Rattle.expander_model.specs.Definitions.{Definition, nearest}
+use Rattle.cfg_options.specs.Conditions.{or_else}
 use Rattle.expander_model.specs.Pieces.{cut}
 use Rattle.expander_model.specs.Expansion.{World, Outcome, CallSite, just, followed_by, grouped, faulted, found, bursting, before_group, whole_call}
 use Rattle.expander_model.specs.OtherPlaces.{definition_with}

@@ -3,8 +3,7 @@ pub mod TopLevelMeaning
 -- what the laws rest on
 pub mod Keywords
 pub mod ScopeChanges
--- what conditional compilation leaves out, and how much a call may make; no meaning takes them yet
-pub mod Conditions
+-- how much a call may make; no meaning takes it yet
 pub mod Limits
 -- what the functions inside a crate that expands by these promise each other
 pub mod FromLeft

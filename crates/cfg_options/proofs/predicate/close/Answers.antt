@@ -1,5 +1,5 @@
 use Rattle.std.proofs.Common.{sym, ap, ◌∙◌, arith}
-use Rattle.textual_scope.specs.Conditions.{cut_at_commas}
+use Rattle.cfg_options.specs.Conditions.{cut_at_commas}
 use Rattle.tt_data.specs.Forest.{empty, size}
 use Rattle.cfg_options.specs.OpenLists.{left_in, value_around, weight, whole_value}
 use Rattle.cfg_options.specs.Parts.{ended, value_of_rest}

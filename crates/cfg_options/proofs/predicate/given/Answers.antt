@@ -1,6 +1,6 @@
 use Rattle.std.proofs.Common.{sym, ap, ◌∙◌}
 use Rattle.small_grammar.specs.Text.{◌>>=◌}
-use Rattle.textual_scope.specs.Conditions.{cut_at_commas}
+use Rattle.cfg_options.specs.Conditions.{cut_at_commas}
 use Rattle.tt_data.specs.Forest.{empty}
 use Rattle.cfg_options.specs.OpenLists.{value_around, whole_value}
 use Rattle.cfg_options.specs.Parts.{value_of_rest}

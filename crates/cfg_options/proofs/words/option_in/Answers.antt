@@ -1,7 +1,7 @@
 use Rattle.std.proofs.Common.{◌≡◌, true, sym, ap, ◌∙◌, option_map}
 use Rattle.tt_data.specs.Lent.{ident_lent, literal_lent}
 use Rattle.tt_data.specs.declared.leaf.Ident.{Ident}
-use Rattle.textual_scope.specs.Conditions.{is_option_name}
+use Rattle.cfg_options.specs.Conditions.{is_option_name}
 use Rattle.cfg_options.proofs.WordLemmas.{valued, valued_is}
 use Rattle.cfg_options.proofs.words.option_in.Goals as goal
 

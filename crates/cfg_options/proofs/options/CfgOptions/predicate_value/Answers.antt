@@ -1,6 +1,6 @@
 use Rattle.std.proofs.Common.{◌≡◌, sym, ◌∙◌}
 use Rattle.std.proofs.lemmas.Result.{IfOk-weaker}
-use Rattle.textual_scope.specs.Conditions.{option_value}
+use Rattle.cfg_options.specs.Conditions.{option_value}
 use Rattle.cfg_options.specs.OpenLists.{value_under}
 use Rattle.cfg_options.specs.Options.{options_of}
 use Rattle.cfg_options.specs.Parts.{open_value}

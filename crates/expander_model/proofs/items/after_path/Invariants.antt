@@ -1,7 +1,7 @@
 use Rattle.std.proofs.Common.{◌≡◌}
 use Rattle.tt_data.specs.Forest.{size}
-use Rattle.textual_scope.specs.Conditions.{after_path}
-use Rattle.cfg_options.proofs.items.after_path.Given as goal
+use Rattle.expander_model.specs.WholeItems.{after_path}
+use Rattle.expander_model.proofs.items.after_path.Given as goal
 
 abbrev pub invariant-loop-after : goal.invariant-loop-after
 invariant-loop-after l = after_path l.trees ≡ after_path l.rest

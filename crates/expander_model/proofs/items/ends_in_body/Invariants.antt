@@ -1,7 +1,7 @@
 use Rattle.std.proofs.Common.{◌≡◌, ◌+◌, ◌<◌, ◌^◌, false}
 use Rattle.tt_data.specs.Forest.{size}
-use Rattle.textual_scope.specs.Conditions.{ends_in_body}
-use Rattle.cfg_options.proofs.items.ends_in_body.Given as goal
+use Rattle.expander_model.specs.WholeItems.{ends_in_body}
+use Rattle.expander_model.proofs.items.ends_in_body.Given as goal
 
 abbrev pub invariant-loop-leaf : goal.invariant-loop-leaf
 invariant-loop-leaf l =

@@ -1,10 +1,10 @@
 use Rattle.std.proofs.Common.{◌≡◌}
 use Rattle.tt_data.specs.Forest.{size}
-use Rattle.textual_scope.specs.Conditions.{ends_in_semicolon}
-use Rattle.cfg_options.proofs.items.ends_in_semicolon.Given as goal
+use Rattle.expander_model.specs.WholeItems.{after_qualifiers}
+use Rattle.expander_model.proofs.items.after_qualifiers.Given as goal
 
 abbrev pub invariant-loop-leaf : goal.invariant-loop-leaf
-invariant-loop-leaf l = ends_in_semicolon l.trees ≡ ends_in_semicolon l.rest
+invariant-loop-leaf l = after_qualifiers l.trees ≡ after_qualifiers l.rest
 
 abbrev pub decreases-loop-leaf : goal.decreases-loop-leaf
 decreases-loop-leaf l = size l.rest

@@ -3,19 +3,18 @@ ghost use Rattle.std.specs.Prelude.{◌≡◌, ◌<◌, ◌||◌, ◌∷◌, [],
 ghost use Rattle.tt_data.specs.Forest.{empty, leaf};
 ghost use Rattle.tt_data.specs.Lent.{ident_lent, leaf_lent};
 ghost use Rattle.tt_data.specs.declared.leaf.Leaf.TheVariants as as_leaf;
-ghost use Rattle.expander_model.specs.Definitions.{is_semicolon};
-ghost use Rattle.textual_scope.specs.Conditions.{after_call, after_path, after_qualifiers};
-ghost use Rattle.textual_scope.specs.Conditions.{begins_with, behind_colons, ends_in_body};
-ghost use Rattle.textual_scope.specs.Conditions.{ends_in_semicolon, is_bodied, is_end};
-ghost use Rattle.textual_scope.specs.Conditions.{is_extern_block, is_path_call, is_short};
-ghost use Rattle.textual_scope.specs.Conditions.{is_whole_call, is_whole_item, opened_after};
-ghost use Rattle.expander_model.specs.Calls.{is_colons};
-ghost use Rattle.cfg_options.specs.Lists.{behind_name, is_char_of, is_item};
+ghost use Rattle.expander_model.specs.WholeItems.{after_call, after_path, after_qualifiers};
+ghost use Rattle.expander_model.specs.WholeItems.{begins_with, behind_colons, ends_in_body};
+ghost use Rattle.expander_model.specs.WholeItems.{ends_in_semicolon, is_bodied, is_end};
+ghost use Rattle.expander_model.specs.WholeItems.{is_extern_block, is_path_call, is_short};
+ghost use Rattle.expander_model.specs.WholeItems.{is_whole_call, is_whole_item, opened_after};
+ghost use Rattle.expander_model.specs.ItemSteps.{behind_name, is_char_of, is_item};
 
-use expander_model::definition::{after_attributes, after_pub, after_word};
+use crate::call::{bare_call, is_colons};
+use crate::definition::{after_attributes, after_pub, after_word, is_semicolon};
 use small_grammar::names::has_text;
 use tt::TtIter;
-use tt_data::{DelimiterKind, IdentRef, LeafRef, Punct, Spacing};
+use tt_data::{DelimiterKind, IdentRef, LeafRef};
 
 // Whether a leaf is this punct.
 fn is_punct(leaf: LeafRef<'_>, char: char) -> bool
@@ -24,16 +23,6 @@ fn is_punct(leaf: LeafRef<'_>, char: char) -> bool
     match leaf {
         LeafRef::Punct(punct) => punct.char == char,
         _ => false,
-    }
-}
-
-// Whether the trees are exactly a `;`.
-fn is_semicolon(trees: &TtIter<'_>) -> bool
-    ensures { result ≡ is_semicolon trees.now }
-{
-    match trees.first_punct() {
-        Some((punct, rest)) => punct.char == ';' && rest.is_empty(),
-        None => false,
     }
 }
 
@@ -198,13 +187,6 @@ fn is_short(trees: &TtIter<'_>) -> bool
     begins_short(trees) && ends_in_semicolon(trees)
 }
 
-// Whether two puncts are a `::`.
-fn is_colons(first: Punct, second: Punct) -> bool
-    ensures { result ≡ is_colons first second }
-{
-    first.char == ':' && second.char == ':' && first.spacing != Spacing::Alone
-}
-
 // What follows a `::` at the beginning, if one does.
 fn behind_colons<'a>(trees: &TtIter<'a>) -> Option<TtIter<'a>>
     ensures { result ≡ behind_colons trees.now }
@@ -241,17 +223,7 @@ fn after_path<'a>(trees: &TtIter<'a>) -> TtIter<'a>
 fn after_call<'a>(trees: &TtIter<'a>) -> Option<TtIter<'a>>
     ensures { result ≡ after_call trees.now }
 {
-    let (_, after_name) = trees.lent_ident()?;
-    let (bang, after_bang) = after_name.first_punct()?;
-    if bang.char != '!' {
-        return None;
-    }
-    let (brackets, _, rest) = after_bang.first_group()?;
-    if brackets.kind == DelimiterKind::Invisible {
-        None
-    } else {
-        Some(rest)
-    }
+    Some(bare_call(trees)?.rest)
 }
 
 // Whether there is nothing, or `;`.
