@@ -1,16 +1,16 @@
 -- The dialect in which no option is set, and the one of Rust's rules. (Of this project.)
-use Rattle.std.specs.Prelude.{true, false}
+use Rattle.std.specs.Prelude.{true, false, None}
 use Rattle.expander_model.specs.declared.dialect.Dialect.{Dialect}
 use Rattle.expander_model.specs.declared.scope_rules.ScopeRules.{ScopeRules}
 use Rattle.expander_model.specs.declared.scope_rules.ScopeRules.TheVariants as rules
 
--- a name finds pieces of texts alone, and each `;` stays
+-- a name finds pieces of texts alone, each `;` stays, and conditions leave nothing out
 abbrev pub top_level : Dialect
-top_level = record { scope = rules.TopLevel; items = false }
+top_level = record { scope = rules.TopLevel; items = false; cfg = None }
 
 -- a name finds definitions of lists too, and the `;` of an item's call goes with it
 abbrev pub rust : Dialect
-rust = record { scope = rules.Rust; items = true }
+rust = record { scope = rules.Rust; items = true; cfg = None }
 
 -- the one of these for scope rules
 abbrev pub dialect_by : ScopeRules → Dialect

@@ -12,6 +12,10 @@ use Rattle.tt_data.specs.declared.delimiter.DelimiterKind.{DelimiterKind}
 use Rattle.tt_data.specs.declared.delimiter.DelimiterKind.TheVariants.{Brace}
 use Rattle.tt_data.specs.declared.leaf.Leaf.{Leaf}
 use Rattle.expander_model.specs.declared.fault.FaultKind.TheVariants.{CannotExpand, BrokenDefinition, RecursionLimit}
+use Rattle.cfg_options.specs.Options.{options_of}
+use Rattle.cfg_options.specs.Strings.{string_text}
+use Rattle.cfg_options.specs.declared.options.CfgOptions.{CfgOptions}
+use Rattle.expander_model.specs.WholeItems.{is_configured_out}
 use Rattle.expander_model.specs.Calls.{Path, bare, from_crate, other, Marked, none, token, inside, call, marked, unmarked, key_of}
 use Rattle.expander_model.specs.Definitions.{Definition, definition_of, nearest}
 use Rattle.cfg_options.specs.Conditions.{or_else}
@@ -51,6 +55,17 @@ abbrev pub definition_in : ScopeRules → Forest → Option Definition
 definition_in TopLevel piece = None
 definition_in Rust piece = definition_of piece
 
+-- what a piece of a list is: one that conditional compilation leaves out, a definition, or trees
+pub data PieceKind : Type 0 where
+  out_piece : PieceKind
+  definition_piece : Definition → PieceKind
+  plain_piece : PieceKind
+
+-- one that is not left out
+abbrev pub kind_of : Option Definition → PieceKind
+kind_of (Some d) = definition_piece d
+kind_of None = plain_piece
+
 -- a definition in a visible group is left out of the output: what could find it was expanded
 abbrev pub is_left_out : Standing → Bool
 is_left_out Enclosed = true
@@ -62,6 +77,20 @@ abbrev pub is_items : Standing → Bool
 is_items Top = true
 is_items Items = true
 is_items _ = false
+
+-- conditional compilation leaves a piece of a list out, where options are given: but not in the
+-- argument of a call that stays
+abbrev pub is_out : Option CfgOptions → Standing → Forest → Bool
+is_out None standing piece = false
+is_out (Some options) Argument piece = false
+is_out (Some options) standing piece =
+    is_configured_out (options_of options) string_text (is_items standing) piece
+
+-- what a piece of a list is
+abbrev pub kind_in : Dialect → Standing → Forest → PieceKind
+kind_in dialect standing piece =
+    if is_out dialect.cfg standing piece then out_piece
+    else kind_of (definition_in dialect.scope piece)
 
 -- where the list in a visible group is
 abbrev pub in_brackets_of : Bool → Standing → Standing
@@ -203,18 +232,19 @@ module _ {D : Type 0} (dialect : Dialect) (world : World D) (local : Definition 
       (kept_call search around path name bang d (unmarked a)))
       (λ here. search_trees search deeper (after_call gone s d.kind) here rest) around
 
-  -- a piece of a list: a definition, or trees
-  abbrev pub search_piece : Search D → Option (Search D) → Around → Forest → Option Definition
+  -- a piece of a list, by what it is
+  abbrev pub search_piece : Search D → Option (Search D) → Around → Forest → PieceKind
       → Scoped D
-  search_piece search deeper around piece (Some d) = defined around d
-  search_piece search deeper around piece None =
+  search_piece search deeper around piece out_piece = only (just around.outer [])
+  search_piece search deeper around piece (definition_piece d) = defined around d
+  search_piece search deeper around piece plain_piece =
       search_trees search deeper Nothing around (marked piece)
 
   -- the pieces of a list, each in the scope of what those before it define
   abbrev pub search_pieces : Search D → Option (Search D) → Around → List Forest → Scoped D
   search_pieces search deeper around [] = only (just around.outer [])
   search_pieces search deeper around (p ∷ ps) =
-      and_next (search_piece search deeper around p (definition_in dialect.scope p))
+      and_next (search_piece search deeper around p (kind_in dialect around.standing p))
       (λ here. search_pieces search deeper here ps) around
 
   -- a list whose groups nest less than n deep, as those of any list with fewer than n tokens do

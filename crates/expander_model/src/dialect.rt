@@ -3,24 +3,29 @@ ghost use Rattle.std.specs.Prelude.{◌≡◌};
 ghost use Rattle.expander_model.specs.Dialects.{dialect_by, rust, top_level};
 
 use crate::scope_rules::ScopeRules;
+use cfg_options::CfgOptions;
 
 /// The options of what a text means.
-#[derive(Clone, Copy, Debug, PartialEq, Eq)]
+#[derive(Drop)]
 pub struct Dialect {
     /// Which definitions a name can find.
     pub scope: ScopeRules,
     /// Whether the `;` behind a call that stands alone in a list of items goes with the call.
     pub items: bool,
+    /// The options that are set for conditional compilation. `None` if it leaves nothing out.
+    pub cfg: Option<CfgOptions>,
 }
 
 impl Dialect {
-    /// No option is set: names find pieces of texts alone, and each `;` stays.
+    /// No option is set: names find pieces of texts alone, each `;` stays, and conditions leave
+    /// nothing out.
     pub fn top_level() -> Dialect
         ensures { result ≡ top_level }
     {
         Dialect {
             scope: ScopeRules::TopLevel,
             items: false,
+            cfg: None,
         }
     }
 
@@ -32,6 +37,7 @@ impl Dialect {
         Dialect {
             scope: ScopeRules::Rust,
             items: true,
+            cfg: None,
         }
     }
 

@@ -22,7 +22,7 @@ use Rattle.expander_model.specs.declared.scope_rules.Standing.TheVariants.{Argum
 use Rattle.expander_model.specs.declared.fault.FaultKind.{FaultKind}
 use Rattle.expander_model.specs.declared.fault.FaultKind.TheVariants.{CannotExpand, BrokenDefinition, RecursionLimit}
 use Rattle.expander_scope.specs.Expanding.{deeper_at, searched, answer_at, answer, makes_too_many, Adds, Expands}
-use Rattle.expander_scope.specs.ListsLeft.{IsAhead, Left, Place, all_left, groups_left, in_list, list_left, then_left}
+use Rattle.expander_scope.specs.ListsLeft.{IsAhead, IsOutAhead, Left, Place, all_left, groups_left, in_list, list_left, then_left}
 use Rattle.expander_scope.specs.Outcomes.{find_of, parts_of}
 use Rattle.expander_scope.specs.Sinks.{TakesMore}
 use Rattle.expander_scope.specs.Turns.{begun_behind, broken_at, is_bare, kept_left, local_at, lookups_of, resolved}
@@ -247,7 +247,7 @@ module _ (dialect : Dialect) (world : World Numbered) (scope : List ℕ → Opti
   behind_is : (gone : Bool) (s : Begun) (f : Forest) (c : Call) (b : Bool) (k : IsCall f c b) → begun_behind gone s c.from_group ≡ after_call gone s k.brackets.kind
   behind_is gone s f c b k = ap (begun_behind gone s) k.group_is
 
-  module _ (outer : Option Span) (p : Place) (plain : IsPlain dialect world scope depth p.begun p.here) where
+  module _ (outer : Option Span) (p : Place) (plain : IsPlain dialect world scope depth p.standing p.begun p.here) where
     abbrev around : Around
     around = here_in dialect world scope depth outer p.standing p.locals
 
@@ -272,7 +272,7 @@ module _ (dialect : Dialect) (world : World Numbered) (scope : List ℕ → Opti
         passed_in dialect world scope depth outer p.begun (after_call (takes c b k) p.begun k.brackets.kind) p.standing p.locals p.here c.rest a next
         (ap (list_left dialect world scope depth p.begun around) is
         ∙ left_call dialect world scope depth p.begun around k.path c.name k.bang k.brackets c.argument c.rest k.of_call
-        (λ u v. subst (λ f. IsAhead f None) is (plain u v)))
+        ((λ v. subst (λ f. IsOutAhead dialect.cfg p.standing f None) is (plain.0 v)), (λ u v. subst (λ f. IsAhead f None) is (plain.1 u v))))
         ∙ ap (λ t. then_left a.outcome (in_list dialect world scope depth outer t p.standing (a.defines ++ p.locals) c.rest next))
         (ap (λ x. after_call x p.begun k.brackets.kind) e ∙ sym (behind_is gone p.begun p.here c b k))
 

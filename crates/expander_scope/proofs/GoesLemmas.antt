@@ -16,7 +16,8 @@ use Rattle.expander_model.specs.Definitions.{Definition, definition_of}
 use Rattle.expander_model.specs.Expansion.{World, Outcome, CallSite, PlacedStep, before_group, bursting, just, followed_by, stays}
 use Rattle.expander_model.specs.Held.{Numbered, unnumbered}
 use Rattle.expander_model.specs.PieceStates.{after_leaf, after_group, after_name, is_dropped}
-use Rattle.expander_model.specs.Scoping.{Around as Surroundings, Scoped, and_next, defined, definition_in, in_brackets, in_group, only}
+use Rattle.expander_model.specs.Scoping.{Around as Surroundings, Scoped, out_piece, definition_piece, kind_of, kind_in, and_next, defined, definition_in, in_brackets, in_group, only}
+use Rattle.cfg_options.specs.declared.options.CfgOptions.{CfgOptions}
 use Rattle.expander_model.specs.declared.dialect.Dialect.{Dialect}
 use Rattle.expander_model.specs.WalkSteps.{Enters, GoesOn, groups_of}
 use Rattle.expander_model.specs.declared.tree_walk.TreeWalk.{TreeWalk}
@@ -35,7 +36,7 @@ use Rattle.expander_model.specs.declared.scope_rules.Standing.{Standing}
 use Rattle.expander_model.specs.declared.scope_rules.Standing.TheVariants.{Argument}
 use Rattle.expander_model.specs.declared.tree_walk.Around.{Around}
 use Rattle.expander_scope.specs.Expanding.{Adds, answer, deeper_at, makes_too_many, searched}
-use Rattle.expander_scope.specs.ListsLeft.{IsAhead, Left, Open, Place, all_left, groups_left, in_list, let_out, list_left, then_left}
+use Rattle.expander_scope.specs.ListsLeft.{IsAhead, IsOutAhead, Left, Open, Place, all_left, groups_left, in_list, let_out, list_left, then_left}
 use Rattle.expander_scope.specs.Leaving.{Leaves}
 use Rattle.expander_scope.specs.LocalTables.{AreReadIn, locals_of}
 use Rattle.expander_scope.specs.Turns.{AreNested, BeginsWithGroup, Goes, IsAt, IsNoCall, IsPassable, IsPlainAhead, begun_behind, is_alone_at, lookups_of, resolved, around_of, level_of, left_ahead, argument_left, kept_left, steps_in, turns_left}
@@ -49,8 +50,8 @@ use Rattle.expander_scope.proofs.ListLemmas.{entered_in, here_in, left_at_beginn
 use Rattle.expander_scope.proofs.OutcomeLemmas.{or_later}
 use Rattle.expander_scope.proofs.SinkLemmas.{takes_none}
 use Rattle.expander_scope.proofs.TurnLemmas.{IsCall, call_is_call, colons_is_call, neither, rest_smaller}
-use Rattle.textual_scope.proofs.LeftLemmas.{at_definition}
-use Rattle.textual_scope.proofs.ResultLemmas.{followed_by_nothing}
+use Rattle.textual_scope.proofs.LeftLemmas.{at_definition, at_out}
+use Rattle.textual_scope.proofs.ResultLemmas.{followed_by_nothing, nothing_and}
 
 pub entered : (b : Bool) → (b ≡ false → ⊥) → b ≡ true
 entered true never = refl
@@ -95,7 +96,7 @@ module _ (dialect : Dialect) (world : World Numbered) (scope : List ℕ → Opti
       let at : Surroundings = here_in dialect world scope depth outer p.standing p.locals in
       passed_in dialect world scope depth outer p.begun (after_leaf p.begun l) p.standing p.locals p.here rest (only (leaf_of p l)) (groups_left dialect world scope depth outer p.groups)
       (ap (list_left dialect world scope depth p.begun at) is
-      ∙ left_leaf dialect world scope depth p.begun at l rest (λ u v. subst (λ f. IsAhead f None) is (plain u v))
+      ∙ left_leaf dialect world scope depth p.begun at l rest ((λ v. subst (λ f. IsOutAhead dialect.cfg p.standing f None) is (plain.0 v)), (λ u v. subst (λ f. IsAhead f None) is (plain.1 u v)))
       (no_call l rest both.0 both.1 (ap call_behind_colons (sym is) ∙ none.1)))
 
   -- the place in a group
@@ -116,7 +117,7 @@ module _ (dialect : Dialect) (world : World Numbered) (scope : List ℕ → Opti
       let a : Scoped Numbered = in_brackets outer d (searched dialect world scope depth (here_in dialect world scope depth outer inside p.locals) inner) in
       passed_in dialect world scope depth outer p.begun (after_group p.begun d.kind) p.standing p.locals p.here rest a (groups_left dialect world scope depth outer p.groups)
       (ap (list_left dialect world scope depth p.begun at) is
-      ∙ left_group dialect world scope depth p.begun at d inner rest (λ u v. subst (λ f. IsAhead f None) is (plain u v)))
+      ∙ left_group dialect world scope depth p.begun at d inner rest ((λ v. subst (λ f. IsOutAhead dialect.cfg p.standing f None) is (plain.0 v)), (λ u v. subst (λ f. IsAhead f None) is (plain.1 u v))))
       ∙ entered_in dialect world scope depth outer (after_group p.begun d.kind) p.standing inside p.locals d inner rest p.groups
 
   argument_is : (p : Place) (d : Delimiter) (inner rest : Forest)
@@ -212,13 +213,56 @@ module _ (dialect : Dialect) (world : World Numbered) (scope : List ℕ → Opti
       less = omega (arith, ap size (at.here ∙ at_end), ap size here, ap steps_in groups, ap steps_in (at.groups ∙ ap (map around_of) is));
     }
 
+    -- a piece that is left out was passed
+    pub goes_out : (rest : Forest) → p.begun ≡ Nothing → IsOutAhead dialect.cfg p.standing p.here (Some rest)
+        → after.trees.here ≡ rest → groups_of after.trees ≡ groups_of before.trees → after.begun ≡ before.begun → after.standing ≡ before.standing
+        → after.levels ≡ before.levels → new ≡ old → Goes dialect world scope depth outer edition Has (whole_left p) old new before after
+    goes_out rest nothing out here groups begun standing levels same = record {
+      next = record p { here = rest };
+      at = record {
+        here = here;
+        begun = begun ∙ at.begun;
+        standing = standing ∙ at.standing;
+        locals = ap (λ (s : Search S). locals_of s.locals) same ∙ at.locals;
+        groups = groups ∙ at.groups;
+        levels = ap (λ (v : _). reverse v.items) levels ∙ at.levels;
+        nested = at.nested;
+      };
+      outcome = just outer [];
+      is = out_left;
+      adds = subst (λ (s : Search S). Adds Has old.out s.out (just outer [])) (sym same) (adds_just Has old.out old.out outer [] (takes_none Has old.out.output) refl refl);
+      read = subst (λ (s : Search S). AreReadIn edition old.locals → AreReadIn edition s.locals) (sym same) (λ r. r);
+      less = omega (arith, ap size at.here, ap size here, ap steps_in groups, out.1.1.1);
+    }
+      where
+        surroundings : Surroundings
+        surroundings = here_in dialect world scope depth outer p.standing p.locals
+
+        nothing_of : Scoped Numbered
+        nothing_of = only (just outer [])
+
+        kind_is : kind_in dialect p.standing out.0 ≡ out_piece
+        kind_is = ap (λ b. if b then out_piece else kind_of (definition_in dialect.scope out.0)) out.1.1.0
+
+        list_is : (s : Begun) → s ≡ Nothing
+            → list_left dialect world scope depth s surroundings p.here ≡ and_next nothing_of (λ here. list_left dialect world scope depth s here rest) surroundings
+        list_is Nothing v =
+            at_out dialect world unnumbered scope (searched dialect world scope depth) (deeper_at dialect world scope depth) surroundings p.here out.0 rest out.1.0 kind_is
+            ∙ sym (nothing_and outer (λ here. list_left dialect world scope depth Nothing here rest) surroundings)
+        list_is s v = absurd (cc v)
+
+        out_left : whole_left p ≡ then_left (just outer []) (whole_left (record p { here = rest }))
+        out_left =
+            passed_in dialect world scope depth outer p.begun p.begun p.standing p.locals p.here rest nothing_of (groups_left dialect world scope depth outer p.groups) (list_is p.begun nothing)
+
     -- a definition was passed
-    pub goes_on_behind : (d : Definition) (piece rest : Forest) → dialect.scope ≡ Rust → p.begun ≡ Nothing → IsAhead p.here (Some (piece, rest)) → definition_of piece ≡ Some d
+    pub goes_on_behind : (d : Definition) (piece rest : Forest) → IsOutAhead dialect.cfg p.standing p.here None
+        → dialect.scope ≡ Rust → p.begun ≡ Nothing → IsAhead p.here (Some (piece, rest)) → definition_of piece ≡ Some d
         → after.trees.here ≡ rest → groups_of after.trees ≡ groups_of before.trees → after.begun ≡ before.begun → after.standing ≡ before.standing
         → after.levels ≡ before.levels → locals_of new.locals ≡ d ∷ locals_of old.locals → (AreReadIn edition old.locals → AreReadIn edition new.locals)
         → Adds Has old.out new.out (defined dialect world unnumbered scope (here_in dialect world scope depth outer p.standing p.locals) d).outcome
         → Goes dialect world scope depth outer edition Has (whole_left p) old new before after
-    goes_on_behind d piece rest rust nothing ahead is here groups begun standing levels locals read adds = record {
+    goes_on_behind d piece rest inside rust nothing ahead is here groups begun standing levels locals read adds = record {
       next = record p { here = rest; locals = d ∷ p.locals };
       at = record {
         here = here;
@@ -246,10 +290,15 @@ module _ (dialect : Dialect) (world : World Numbered) (scope : List ℕ → Opti
         found_in Rust u = is
         found_in TopLevel u = absurd (cc u)
 
+        kind_is : kind_in dialect p.standing piece ≡ definition_piece d
+        kind_is =
+            ap (λ b. if b then out_piece else kind_of (definition_in dialect.scope piece)) (inside piece (cut rest) ahead.0)
+            ∙ ap kind_of (found_in dialect.scope rust)
+
         list_is : (s : Begun) → s ≡ Nothing
             → list_left dialect world scope depth s surroundings p.here ≡ and_next (defined dialect world unnumbered scope surroundings d) (λ here. list_left dialect world scope depth s here rest) surroundings
         list_is Nothing v =
-            at_definition dialect world unnumbered scope (searched dialect world scope depth) (deeper_at dialect world scope depth) surroundings p.here piece rest d ahead.0 (found_in dialect.scope rust)
+            at_definition dialect world unnumbered scope (searched dialect world scope depth) (deeper_at dialect world scope depth) surroundings p.here piece rest d ahead.0 kind_is
         list_is s v = absurd (cc v)
 
         defined_left : whole_left p ≡ then_left a.outcome (whole_left (record p { here = rest; locals = d ∷ p.locals }))
@@ -574,9 +623,17 @@ pub some_from : {X : Type 0} (o : Option X) → is_some o ≡ true → (x : X) �
 some_from None e = absurd (cc e)
 some_from (Some x) e = (x, refl)
 
--- no definition begins where none begins in the traversal
-pub plain_at : (w : ListWalk) (l : Locals) (p : Place) → IsAt w l p → (dialect : Dialect) → (dialect.scope ≡ Rust → w.begun ≡ Nothing → IsAhead w.trees.here None) → IsPlainAhead dialect p
-plain_at w l p at dialect nowhere = λ u v. subst (λ f. IsAhead f None) at.here (nowhere u (at.begun ∙ v))
+-- what is left out where the traversal stands is left out at its place
+pub out_at : (w : ListWalk) (l : Locals) (p : Place) → IsAt w l p → (cfg : Option CfgOptions) (o : Option Forest)
+    → IsOutAhead cfg w.standing w.trees.here o → IsOutAhead cfg p.standing p.here o
+out_at w l p at cfg o h = subst (λ s. IsOutAhead cfg s p.here o) at.standing (subst (λ f. IsOutAhead cfg w.standing f o) at.here h)
+
+-- no piece that is left out or a definition begins where none begins in the traversal
+pub plain_at : (w : ListWalk) (l : Locals) (p : Place) → IsAt w l p → (dialect : Dialect)
+    → (w.begun ≡ Nothing → IsOutAhead dialect.cfg w.standing w.trees.here None)
+    → (dialect.scope ≡ Rust → w.begun ≡ Nothing → IsAhead w.trees.here None) → IsPlainAhead dialect p
+plain_at w l p at dialect inside nowhere =
+    ((λ v. out_at w l p at dialect.cfg None (inside (at.begun ∙ v))), (λ u v. subst (λ f. IsAhead f None) at.here (nowhere u (at.begun ∙ v))))
 
 pub no_call_at : (w : ListWalk) (l : Locals) (p : Place) → IsAt w l p → call_at w.trees.here ≡ None → call_behind_colons w.trees.here ≡ None → IsNoCall p
 no_call_at w l p at a b = (ap call_at (sym at.here) ∙ a, ap call_behind_colons (sym at.here) ∙ b)

@@ -15,7 +15,7 @@ use Rattle.expander_model.specs.Expansion.{World, Outcome, just, followed_by, gr
 use Rattle.expander_model.specs.Held.{Numbered, unnumbered}
 use Rattle.expander_model.specs.PieceStates.{after_call, after_leaf, after_group}
 use Rattle.expander_model.specs.Pieces.{cut}
-use Rattle.expander_model.specs.Scoping.{Around, Scoped, Search, definition_in, in_group, only, and_next, in_brackets, at_call, kept_call, search_leaf, search_list, scoped, takes_end}
+use Rattle.expander_model.specs.Scoping.{Around, Scoped, Search, out_piece, plain_piece, kind_of, kind_in, definition_in, in_group, only, and_next, in_brackets, at_call, kept_call, search_leaf, search_list, scoped, takes_end}
 use Rattle.expander_model.specs.declared.begun.Begun.{Begun}
 use Rattle.expander_model.specs.declared.begun.Begun.TheVariants.{Nothing, Pound, PoundBang, Attributes, AttributesPound, Visible, Qualified, Item, Extern, Abi, Gone, Other}
 use Rattle.expander_model.specs.declared.dialect.Dialect.{Dialect}
@@ -23,7 +23,7 @@ use Rattle.expander_model.specs.declared.scope_rules.ScopeRules.{ScopeRules}
 use Rattle.expander_model.specs.declared.scope_rules.ScopeRules.TheVariants.{TopLevel, Rust}
 use Rattle.expander_model.specs.declared.scope_rules.Standing.{Standing}
 use Rattle.expander_scope.specs.Expanding.{deeper_at, searched}
-use Rattle.expander_scope.specs.ListsLeft.{IsAhead, Left, Open, list_left, in_list, groups_left, all_left, then_left, let_out}
+use Rattle.expander_scope.specs.ListsLeft.{IsAhead, IsOutAhead, Left, Open, list_left, in_list, groups_left, all_left, then_left, let_out}
 use Rattle.textual_scope.specs.FromLeft.{AreOfCall, is_begun, pieces_left, trees_left}
 use Rattle.textual_scope.proofs.LeftLemmas.{call_before, at_piece, at_token, at_group, at_a_call, left_nothing}
 use Rattle.textual_scope.proofs.ResultLemmas.{followed_assoc, followed_by_nothing}
@@ -59,13 +59,19 @@ module _ (dialect : Dialect) (world : World Numbered) (scope : List ℕ → Opti
   left_empty s around = elim (is_begun s) as (λ b. (if b then trees_left dialect world unnumbered scope S deep s around empty else pieces_left dialect world unnumbered scope S deep around empty)
       ≡ only (just around.outer [])) [ true ↦ left_nothing dialect world unnumbered scope S deep s around | false ↦ refl ]
 
-  -- no definition begins here
-  abbrev pub IsPlain : Begun → Forest → Type 0
-  IsPlain s f = dialect.scope ≡ Rust → s ≡ Nothing → IsAhead f None
+  -- no piece that is left out or a definition begins here
+  abbrev pub IsPlain : Standing → Begun → Forest → Type 0
+  IsPlain standing s f = (s ≡ Nothing → IsOutAhead dialect.cfg standing f None) × (dialect.scope ≡ Rust → s ≡ Nothing → IsAhead f None)
 
   none_in : (r : ScopeRules) (f : Forest) → (r ≡ Rust → IsAhead f None) → (p : Forest) (ps : List Forest) → cut f ≡ p ∷ ps → definition_in r p ≡ None
   none_in TopLevel f plain p ps e = refl
   none_in Rust f plain p ps e = plain refl p ps e
+
+  plain_in : (standing : Standing) (f : Forest) → IsOutAhead dialect.cfg standing f None → (dialect.scope ≡ Rust → IsAhead f None)
+      → (p : Forest) (ps : List Forest) → cut f ≡ p ∷ ps → kind_in dialect standing p ≡ plain_piece
+  plain_in standing f out plain p ps e =
+      ap (λ b. if b then out_piece else kind_of (definition_in dialect.scope p)) (out p ps e)
+      ∙ ap kind_of (none_in dialect.scope f plain p ps e)
 
   not_begun : (s : Begun) → is_begun s ≡ false → s ≡ Nothing
   not_begun Nothing e = refl
@@ -81,24 +87,24 @@ module _ (dialect : Dialect) (world : World Numbered) (scope : List ℕ → Opti
   not_begun Gone e = absurd (cc e)
   not_begun Other e = absurd (cc e)
 
-  trees_of_piece : (s : Begun) (around : Around) (f : Forest) → f ≢ empty → IsPlain s f → left s around f ≡ trees_left dialect world unnumbered scope S deep s around f
+  trees_of_piece : (s : Begun) (around : Around) (f : Forest) → f ≢ empty → IsPlain around.standing s f → left s around f ≡ trees_left dialect world unnumbered scope S deep s around f
   trees_of_piece s around f some plain = go (is_begun s) refl
     where
       go : (b : Bool) → is_begun s ≡ b → (if b then trees_left dialect world unnumbered scope S deep s around f else pieces_left dialect world unnumbered scope S deep around f)
           ≡ trees_left dialect world unnumbered scope S deep s around f
       go true e = refl
       go false e =
-          at_piece dialect world unnumbered scope S deep around f some (none_in dialect.scope f (λ rust. plain rust (not_begun s e)))
+          at_piece dialect world unnumbered scope S deep around f some (plain_in around.standing f (plain.0 (not_begun s e)) (λ rust. plain.1 rust (not_begun s e)))
           ∙ ap (λ t. trees_left dialect world unnumbered scope S deep t around f) (sym (not_begun s e))
 
   -- a leaf that begins no call
-  pub left_leaf : (s : Begun) (around : Around) (l : Leaf) (rest : Forest) → IsPlain s (leaf l rest) → mark_leaf l (marked rest) ≡ token l (marked rest)
+  pub left_leaf : (s : Begun) (around : Around) (l : Leaf) (rest : Forest) → IsPlain around.standing s (leaf l rest) → mark_leaf l (marked rest) ≡ token l (marked rest)
       → left s around (leaf l rest) ≡ and_next (search_leaf dialect world unnumbered scope s around l) (λ here. left (after_leaf s l) here rest) around
   left_leaf s around l rest plain h =
       trees_of_piece s around (leaf l rest) (λ e. absurd (cc e)) plain ∙ at_token dialect world unnumbered scope S deep s around l rest h
 
   -- a group
-  pub left_group : (s : Begun) (around : Around) (d : Delimiter) (inner rest : Forest) → IsPlain s (group d inner rest)
+  pub left_group : (s : Begun) (around : Around) (d : Delimiter) (inner rest : Forest) → IsPlain around.standing s (group d inner rest)
       → left s around (group d inner rest)
       ≡ and_next (in_brackets around.outer d (S (record around { standing = in_group s d.kind around.standing }) inner)) (λ here. left (after_group s d.kind) here rest) around
   left_group s around d inner rest plain =
@@ -121,7 +127,7 @@ module _ (dialect : Dialect) (world : World Numbered) (scope : List ℕ → Opti
   some_call (from_crate root p q) name bang d inner rest = λ e. absurd (cc e)
 
   pub left_call : (s : Begun) (around : Around) (path : Path) (name : Ident) (bang : Punct) (d : Delimiter) (inner rest : Forest) → AreOfCall path bang d
-      → IsPlain s (call_before name bang d inner path rest)
+      → IsPlain around.standing s (call_before name bang d inner path rest)
       → left s around (call_before name bang d inner path rest)
       ≡ and_next (called_in around path name bang d inner) (λ here. left (after_call (takes_in s around path name d inner) s d.kind) here rest) around
   left_call s around path name bang d inner rest h plain =

@@ -106,13 +106,13 @@ module _ (dialect : Dialect) (world : World Numbered) (depth : ℕ) (f : Forest)
   in_nothing quiet (suc n) = quiet (Some (expansion world nothing n))
 
   -- so is it in every scope, if where lists have definitions it has no keyword of one
-  pub quiet_scoped : (scope : List ℕ → Option Numbered) → (dialect.scope ≡ Rust → HasNoKeyword f)
+  pub quiet_scoped : (scope : List ℕ → Option Numbered) → dialect.cfg ≡ None → (dialect.scope ≡ Rust → HasNoKeyword f)
       → ((world : World Numbered) (scope : List ℕ → Option Numbered) (deeper : Deeper Numbered) (outer : Option Span) → search_calls world scope deeper outer (marked f) ≡ just outer (walk f))
       → scoped dialect world unnumbered scope depth (without_locals Top None) f ≡ only (just None (walk f))
-  quiet_scoped scope wordless quiet =
+  quiet_scoped scope whole wordless quiet =
       let around : Around = without_locals Top None in
       let is : scoped dialect world unnumbered nothing depth around f ≡ only (just None (walk f)) =
-      unfound_scoped world unnumbered depth f dialect wordless ∙ ap only (in_nothing (λ deeper. quiet world nothing deeper None) depth) in
+      unfound_scoped world unnumbered depth f dialect whole wordless ∙ ap only (in_nothing (λ deeper. quiet world nothing deeper None) depth) in
       agree_scoped dialect world unnumbered nothing scope depth around f
       (subst (λ (a : Scoped Numbered). All (λ find. scope find.0 ≡ find.1) a.outcome.finds) (sym is) (All-nil (λ find. scope find.0 ≡ find.1)))
       ∙ is

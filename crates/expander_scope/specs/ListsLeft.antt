@@ -11,7 +11,8 @@ use Rattle.expander_model.specs.Definitions.{Definition, definition_of}
 use Rattle.expander_model.specs.Expansion.{World, Outcome, just, followed_by}
 use Rattle.expander_model.specs.Held.{Numbered, unnumbered}
 use Rattle.expander_model.specs.Pieces.{cut}
-use Rattle.expander_model.specs.Scoping.{Around, Scoped}
+use Rattle.cfg_options.specs.declared.options.CfgOptions.{CfgOptions}
+use Rattle.expander_model.specs.Scoping.{Around, Scoped, is_out}
 use Rattle.expander_model.specs.declared.begun.Begun.{Begun}
 use Rattle.expander_model.specs.declared.dialect.Dialect.{Dialect}
 use Rattle.expander_model.specs.declared.scope_rules.Standing.{Standing}
@@ -32,6 +33,13 @@ abbrev pub IsAhead : Forest → Option (Forest × Forest) → Type 0
 IsAhead f (Some (p, rest)) =
     (cut f ≡ p ∷ cut rest) × ((is_some (definition_of p) ≡ true) × (size rest < size f))
 IsAhead f None = (p : Forest) (ps : List Forest) → cut f ≡ p ∷ ps → definition_of p ≡ None
+
+-- the first piece is left out, and what follows it; or it is not
+abbrev pub IsOutAhead : Option CfgOptions → Standing → Forest → Option Forest → Type 0
+IsOutAhead cfg standing f (Some rest) =
+    (p : Forest) × ((cut f ≡ p ∷ cut rest) × ((is_out cfg standing p ≡ true) × (size rest < size f)))
+IsOutAhead cfg standing f None =
+    (p : Forest) (ps : List Forest) → cut f ≡ p ∷ ps → is_out cfg standing p ≡ false
 
 -- ---- where a search stands
 

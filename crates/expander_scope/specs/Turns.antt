@@ -29,7 +29,7 @@ use Rattle.expander_model.specs.declared.fault.FaultKind.{FaultKind}
 use Rattle.expander_model.specs.declared.fault.FaultKind.TheVariants.{BrokenDefinition}
 use Rattle.expander_model.specs.declared.tree_walk.Around.{Around}
 use Rattle.expander_scope.specs.Expanding.{Adds, searched, world_under}
-use Rattle.expander_scope.specs.ListsLeft.{IsAhead, Left, Open, Place, all_left, groups_left, in_list, then_left}
+use Rattle.expander_scope.specs.ListsLeft.{IsAhead, IsOutAhead, Left, Open, Place, all_left, groups_left, in_list, then_left}
 use Rattle.expander_scope.specs.LocalTables.{AreReadIn, locals_of}
 use Rattle.expander_scope.specs.ScopeTable.{scope_in}
 use Rattle.expander_scope.specs.declared.expand.Search.{Search}
@@ -118,9 +118,11 @@ steps_in (a ∷ around) = 1 + 2 * size a.behind + steps_in around
 abbrev pub turns_left : ListWalk → ℕ
 turns_left w = 2 * size w.trees.here + steps_in (groups_of w.trees)
 
--- no piece that is a definition begins here
+-- no piece that is left out or a definition begins here
 abbrev pub IsPlainAhead : Dialect → Place → Type 0
-IsPlainAhead dialect p = dialect.scope ≡ Rust → p.begun ≡ begun.Nothing → IsAhead p.here None
+IsPlainAhead dialect p =
+    (p.begun ≡ begun.Nothing → IsOutAhead dialect.cfg p.standing p.here None)
+    × (dialect.scope ≡ Rust → p.begun ≡ begun.Nothing → IsAhead p.here None)
 
 -- neither does a call, nor what would be one but for the `::` before it
 abbrev pub IsNoCall : Place → Type 0

@@ -31,7 +31,7 @@ ghost use Rattle.expander_scope.specs.ScopeTable.{AreRead, expanded_under, scope
 ghost use Rattle.expander_scope.specs.Turns.{BeginsWithGroup, Goes, GoesUnder, IsAt, IsPassable, IsPlainAhead, begun_behind, broken_at, is_bare, kept_left, left_ahead, left_under, local_at, lookups_of, resolved, shown_of};
 
 use crate::event_sink::{EventSink, take_walk};
-use crate::list_walk::{ListWalk, definition_ahead, in_group, is_alone_at};
+use crate::list_walk::{ListWalk, definition_ahead, in_group, is_alone_at, out_ahead};
 use crate::locals::Locals;
 use crate::macro_def::MacroDef;
 use crate::outcome::{Event, NameLookup, Outcome};
@@ -63,7 +63,7 @@ pub struct Environment<'a, G> {
     /// Resolves names.
     pub scope: &'a Scope,
     /// By which options.
-    pub dialect: Dialect,
+    pub dialect: &'a Dialect,
     /// How many levels of calls may still be expanded.
     pub depth: u8,
 }
@@ -191,12 +191,12 @@ fn answer<G: FragmentGrammar>(
 ) -> Result<Result<TopSubtree, FaultKind>, TtFault>
     ensures given { (edition : Edition) → IsRead edition known.now →
         IfOk result (λ given. trees_of given
-        ≡ answer (numbered_world (world (G.answer env.now.grammar.now) edition env.now.dialect))
+        ≡ answer (numbered_world (world (G.answer env.now.grammar.now) edition env.now.dialect.now))
         (numbered_of_known known.now) env.now.depth argument.now) }
     ensures deep { IfOk result (λ given. OnOk given (0 < env.now.depth)) }
     ensures tokens { (edition : Edition) → IsRead edition known.now → result ≡ Err TtFault.Tokens →
         makes_too_many
-        (numbered_world (world (G.answer env.now.grammar.now) edition env.now.dialect))
+        (numbered_world (world (G.answer env.now.grammar.now) edition env.now.dialect.now))
         (numbered_of_known known.now) env.now.depth argument.now ≡ true }
 {
     if known.rules.err().is_some() {
@@ -456,7 +456,7 @@ fn define<G: FragmentGrammar, S: EventSink>(
     ensures adds { OnOk result ((dialect : Dialect) (d : Definition) (locals : List Definition) →
         definition_of piece.now ≡ Some d → Adds S.has_taken search.old.out search.new.out
         (defined dialect
-        (world_under (G.answer env.now.grammar.now) env.now.scope.now env.now.dialect) unnumbered
+        (world_under (G.answer env.now.grammar.now) env.now.scope.now env.now.dialect.now) unnumbered
         (scope_in env.now.scope.now)
         (record { standing = standing; outer = outer; locals = locals }) d).outcome) }
     ensures locals { OnOk result ((d : Definition) → definition_of piece.now ≡ Some d →
@@ -529,12 +529,12 @@ fn expand_call<'a, G: FragmentGrammar, S: EventSink>(
     requires read { AreRead env.now.scope.now }
     requires locals { AreReadIn env.now.scope.now.edition search.old.locals }
     ensures turn { OnOk result ((p : Place) → IsAt walk.old search.old.locals p →
-        IsPlainAhead env.now.dialect p →
-        GoesUnder (G.answer env.now.grammar.now) env.now.scope.now env.now.dialect
+        IsPlainAhead env.now.dialect.now p →
+        GoesUnder (G.answer env.now.grammar.now) env.now.scope.now env.now.dialect.now
         env.now.depth outer S.has_taken p search.old search.new walk.old walk.new) }
     ensures tokens { result ≡ Err TtFault.Tokens → (p : Place) →
-        IsAt walk.old search.old.locals p → IsPlainAhead env.now.dialect p →
-        (left_under (G.answer env.now.grammar.now) env.now.scope.now env.now.dialect
+        IsAt walk.old search.old.locals p → IsPlainAhead env.now.dialect.now p →
+        (left_under (G.answer env.now.grammar.now) env.now.scope.now env.now.dialect.now
         env.now.depth outer p).0.bursts ≡ true }
 {
     let Some(known) = resolve(env, search, &walk.trees.here, &call)? else {
@@ -573,20 +573,24 @@ fn search_list<G: FragmentGrammar, S: EventSink>(
     requires read { AreRead env.now.scope.now }
     requires locals { AreReadIn env.now.scope.now.edition search.old.locals }
     ensures adds { OnOk result (Adds S.has_taken search.old.out search.new.out
-        (searched_under (G.answer env.now.grammar.now) env.now.scope.now env.now.dialect
+        (searched_under (G.answer env.now.grammar.now) env.now.scope.now env.now.dialect.now
         env.now.depth (around_in standing outer search.old.locals) trees.now).outcome) }
     ensures locals { OnOk result (locals_of search.new.locals
-        ≡ (searched_under (G.answer env.now.grammar.now) env.now.scope.now env.now.dialect
+        ≡ (searched_under (G.answer env.now.grammar.now) env.now.scope.now env.now.dialect.now
         env.now.depth (around_in standing outer search.old.locals) trees.now).defines
         ++ locals_of search.old.locals) }
     ensures read { OnOk result (AreReadIn env.now.scope.now.edition search.new.locals) }
     ensures tokens { result ≡ Err TtFault.Tokens →
-        (searched_under (G.answer env.now.grammar.now) env.now.scope.now env.now.dialect
+        (searched_under (G.answer env.now.grammar.now) env.now.scope.now env.now.dialect.now
         env.now.depth (around_in standing outer search.old.locals) trees.now).outcome.bursts
         ≡ true }
 {
     let mut walk = ListWalk::new(env.alloc, trees, standing);
     'turns: loop {
+        if let Some(rest) = out_ahead(env.dialect, &walk)? {
+            walk.trees.go_on(rest);
+            continue 'turns;
+        }
         if let Some((piece, rest)) = piece_ahead(env.dialect.scope, &walk) {
             define(env, outer, search, walk.standing, &piece)?;
             walk.trees.go_on(rest);
@@ -611,16 +615,20 @@ fn search_list<G: FragmentGrammar, S: EventSink>(
     }
 }
 
-// Whether the trees have no call, nothing that would be one but for the `::` before it, and where
-// lists have definitions no keyword of one. Such trees stay as they are.
-fn is_quiet(alloc: Global, rules: ScopeRules, trees: &TtIter<'_>) -> Result<bool, AllocError>
+// Whether nothing is left out, and the trees have no call, nothing that would be one but for the
+// `::` before it, and where lists have definitions no keyword of one. Such trees stay as they are.
+fn is_quiet(alloc: Global, dialect: &Dialect, trees: &TtIter<'_>) -> Result<bool, AllocError>
+    ensures whole { IfOk result (λ quiet. quiet ≡ true → dialect.now.cfg ≡ None) }
     ensures calls { IfOk result (λ quiet. quiet ≡ true →
         (world : World Numbered) (scope : List ℕ → Option Numbered) (deeper : Deeper Numbered)
         (outer : Option Span) →
         search_calls world scope deeper outer (marked trees.now) ≡ just outer (walk trees.now)) }
-    ensures words { IfOk result (λ quiet. quiet ≡ true → rules ≡ ScopeRules.Rust →
+    ensures words { IfOk result (λ quiet. quiet ≡ true → dialect.now.scope ≡ ScopeRules.Rust →
         HasNoKeyword trees.now) }
 {
+    if dialect.cfg.is_some() {
+        return Ok(false);
+    }
     let mut rest = TreeWalk::new(alloc, trees);
     'steps: loop {
         if call_at(&rest.here).is_some() {
@@ -632,7 +640,7 @@ fn is_quiet(alloc: Global, rules: ScopeRules, trees: &TtIter<'_>) -> Result<bool
         let Some(step) = rest.next()? else {
             return Ok(true);
         };
-        if rules == ScopeRules::Rust && is_definition_word(&step) {
+        if dialect.scope == ScopeRules::Rust && is_definition_word(&step) {
             return Ok(false);
         }
     }
@@ -664,10 +672,10 @@ pub fn expand_into<G: FragmentGrammar, S: EventSink>(
 ) -> Result<Expanding<S>, TtFault>
     requires { AreRead env.now.scope.now }
     ensures expands { IfOk result (λ given. Expands S.has_taken sink given
-        (expanded_under (G.answer env.now.grammar.now) env.now.scope.now env.now.dialect
+        (expanded_under (G.answer env.now.grammar.now) env.now.scope.now env.now.dialect.now
         env.now.depth tree.now.inner)) }
     ensures tokens { result ≡ Err TtFault.Tokens →
-        (expanded_under (G.answer env.now.grammar.now) env.now.scope.now env.now.dialect
+        (expanded_under (G.answer env.now.grammar.now) env.now.scope.now env.now.dialect.now
         env.now.depth tree.now.inner).bursts ≡ true }
 {
     let mut search = Search {
@@ -693,14 +701,14 @@ pub fn expand_piece<G: FragmentGrammar>(
 ) -> Result<Outcome, TtFault>
     requires { AreRead env.now.scope.now }
     ensures outcome { IfOk result (λ o. parts_for tree.now.inner o ≡ parts_of
-        (expanded_under (G.answer env.now.grammar.now) env.now.scope.now env.now.dialect
+        (expanded_under (G.answer env.now.grammar.now) env.now.scope.now env.now.dialect.now
         env.now.depth tree.now.inner)) }
     ensures tokens { result ≡ Err TtFault.Tokens →
-        (expanded_under (G.answer env.now.grammar.now) env.now.scope.now env.now.dialect
+        (expanded_under (G.answer env.now.grammar.now) env.now.scope.now env.now.dialect.now
         env.now.depth tree.now.inner).bursts ≡ true }
 {
     let alloc = env.alloc;
-    let quiet = is_quiet(alloc, env.dialect.scope, &tree.iter())?;
+    let quiet = is_quiet(alloc, env.dialect, &tree.iter())?;
     if quiet {
         return Ok(unchanged(alloc));
     }

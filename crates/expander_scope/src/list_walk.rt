@@ -5,14 +5,16 @@ ghost use Rattle.expander_model.specs.PieceStates.{after_group};
 ghost use Rattle.expander_model.specs.WalkSteps.{groups_of};
 ghost use Rattle.expander_scope.specs.Leaving.{Leaves};
 ghost use Rattle.expander_model.specs.Scoping.{in_group, is_items};
-ghost use Rattle.expander_scope.specs.ListsLeft.{IsAhead, can_begin};
+ghost use Rattle.expander_scope.specs.ListsLeft.{IsAhead, IsOutAhead, can_begin};
 ghost use Rattle.expander_scope.specs.Turns.{is_alone_at};
 ghost use Rattle.expander_scope.specs.LocalTables.{AreReadIn};
 
 use crate::locals::Locals;
 use expander_model::begun::Begun;
 use expander_model::definition::definition_of;
+use cfg_options::CfgOptions;
 use expander_model::dialect::Dialect;
+use expander_model::left_out::is_configured_out;
 use expander_model::scope_rules::Standing;
 use expander_model::split::next_piece;
 use expander_model::tree_walk::TreeWalk;
@@ -134,12 +136,12 @@ fn is_items(standing: Standing) -> bool
 /// Whether a call whose group these trees begin with stands alone in a list of items, in
 /// parentheses or brackets.
 pub(crate) fn is_alone_at(
-    dialect: Dialect,
+    dialect: &Dialect,
     begun: Begun,
     standing: Standing,
     from_group: &TtIter<'_>,
 ) -> bool
-    ensures { result ≡ is_alone_at dialect begun standing from_group.now }
+    ensures { result ≡ is_alone_at dialect.now begun standing from_group.now }
 {
     match from_group.first_group() {
         Some((brackets, _, _)) => {
@@ -149,6 +151,51 @@ pub(crate) fn is_alone_at(
                 && brackets.kind != DelimiterKind::Brace
         }
         None => false,
+    }
+}
+
+// What follows the first piece of a list, if these options leave it out. Only a piece with an
+// attribute at its beginning is left out.
+fn out_of_list<'a>(
+    options: &CfgOptions,
+    standing: Standing,
+    trees: &TtIter<'a>,
+) -> Result<Option<TtIter<'a>>, AllocError>
+    ensures { IfOk result (IsOutAhead (Some options.now) standing trees.now) }
+{
+    if standing == Standing::Argument {
+        return Ok(None);
+    }
+    let mut rest = trees.copied();
+    let Some(piece) = next_piece(&mut rest) else {
+        return Ok(None);
+    };
+    if is_configured_out(options, is_items(standing), &piece)? {
+        Ok(Some(rest))
+    } else {
+        Ok(None)
+    }
+}
+
+/// What follows the piece that begins at the present place, if conditional compilation leaves it
+/// out. `None` in the midst of a piece. Out of memory is its only error.
+#[inline(always)]
+pub(crate) fn out_ahead<'a>(
+    dialect: &Dialect,
+    walk: &ListWalk<'a>,
+) -> Result<Option<TtIter<'a>>, AllocError>
+    ensures some { IfOk result (λ out. IfSome out (λ rest. (walk.now.begun ≡ Begun.Nothing)
+        × IsOutAhead dialect.now.cfg walk.now.standing walk.now.trees.here (Some rest))) }
+    ensures none { IfOk result (λ out. out ≡ None → walk.now.begun ≡ Begun.Nothing →
+        IsOutAhead dialect.now.cfg walk.now.standing walk.now.trees.here None) }
+{
+    let Some(options) = &dialect.cfg else {
+        return Ok(None);
+    };
+    if walk.begun == Begun::Nothing {
+        out_of_list(options, walk.standing, &walk.trees.here)
+    } else {
+        Ok(None)
     }
 }
 

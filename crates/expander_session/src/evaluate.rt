@@ -81,7 +81,7 @@ pub(crate) struct EvaluationContext<'a, G> {
     /// Decides what fragments are.
     pub grammar: &'a G,
     /// By which options pieces are expanded.
-    pub dialect: Dialect,
+    pub dialect: &'a Dialect,
     /// How many levels of calls may be expanded.
     pub depth: u8,
     /// What is cached of the last text. The new text changes none of it.
@@ -104,14 +104,14 @@ fn fresh_memo<G: FragmentGrammar>(
     ensures holds { (given : ℕ) (numbers : Forest → Option ℕ) (before : List Met) →
         AreNumbers given numbers →
         All (λ q. IsRight (world (G.answer env.now.grammar.now) env.now.scope.now.edition
-        env.now.dialect) env.now.depth numbers (rc_value q)) taken.now.plains.items →
+        env.now.dialect.now) env.now.depth numbers (rc_value q)) taken.now.plains.items →
         scope_in env.now.scope.now ≡ numbered_scope before →
         All (IsMet (numbered_by numbers)) before →
         IfOk result (λ q. Holds q.value (parts_of
-        (expanded_under (G.answer env.now.grammar.now) env.now.scope.now env.now.dialect
+        (expanded_under (G.answer env.now.grammar.now) env.now.scope.now env.now.dialect.now
         env.now.depth tree.now.value.inner))) }
     ensures tokens { result ≡ Err TtFault.Tokens →
-        (expanded_under (G.answer env.now.grammar.now) env.now.scope.now env.now.dialect
+        (expanded_under (G.answer env.now.grammar.now) env.now.scope.now env.now.dialect.now
         env.now.depth tree.now.value.inner).bursts ≡ true }
 {
     laws::equal_pieces();
@@ -145,7 +145,7 @@ pub(crate) fn evaluate_tree<G: FragmentGrammar>(
         ≡ Some tree.now.value) }
     requires top { tree.now.value.delimiter ≡ text_top }
     requires right { IsCache (world (G.answer env.now.grammar.now) env.now.scope.now.edition
-        env.now.dialect) env.now.depth env.now.scope.now.edition memory.now }
+        env.now.dialect.now) env.now.depth env.now.scope.now.edition memory.now }
     ensures lookup { OnOk result (IndexesMemos lookup.new memory.now.plains.items) }
     ensures tree { IfOk result (λ r. tree_of r.0.value ≡ tree.now.value) }
     ensures hash { IfOk result (λ r. r.2 ≡ tree_hash tree.now.value) }
@@ -153,18 +153,18 @@ pub(crate) fn evaluate_tree<G: FragmentGrammar>(
         AreNumbers given numbers →
         ((t : Forest) (n : ℕ) → numbers_in memory.now.by_tree t ≡ Some n → numbers t ≡ Some n) →
         All (λ q. IsRight (world (G.answer env.now.grammar.now) env.now.scope.now.edition
-        env.now.dialect) env.now.depth numbers (rc_value q)) taken.now.plains.items →
+        env.now.dialect.now) env.now.depth numbers (rc_value q)) taken.now.plains.items →
         scope_in env.now.scope.now ≡ numbered_scope before →
         All (IsMet (numbered_by numbers)) before →
         IfOk result (λ r. Holds r.0.value (parts_of
-        (expanded_under (G.answer env.now.grammar.now) env.now.scope.now env.now.dialect
+        (expanded_under (G.answer env.now.grammar.now) env.now.scope.now env.now.dialect.now
         env.now.depth tree.now.value.inner))) }
     ensures counted { IfOk result (λ r. is_some r.1
         ≡ list_any (matches (scope_in env.now.scope.now) tree.now.value.inner) (map
         (λ q. piece_of (world (G.answer env.now.grammar.now) env.now.scope.now.edition
-        env.now.dialect) env.now.depth (rc_value q)) memory.now.plains.items)) }
+        env.now.dialect.now) env.now.depth (rc_value q)) memory.now.plains.items)) }
     ensures tokens { result ≡ Err TtFault.Tokens →
-        (expanded_under (G.answer env.now.grammar.now) env.now.scope.now env.now.dialect
+        (expanded_under (G.answer env.now.grammar.now) env.now.scope.now env.now.dialect.now
         env.now.depth tree.now.value.inner).bursts ≡ true }
 {
     laws::equal_pieces();
@@ -386,12 +386,12 @@ fn evaluate_imports<G: FragmentGrammar>(
     now: &mut Evaluation,
 ) -> Result<(), Refusal>
     requires right { IsCache
-        (world (G.answer context.now.grammar.now) edition context.now.dialect)
+        (world (G.answer context.now.grammar.now) edition context.now.dialect.now)
         context.now.depth edition context.now.memory.now }
-    requires none { HasImported (G.answer context.now.grammar.now) edition context.now.dialect
+    requires none { HasImported (G.answer context.now.grammar.now) edition context.now.dialect.now
         context.now.depth context.now.memory.now [] now.old }
     ensures taken { OnOk result (HasImported (G.answer context.now.grammar.now) edition
-        context.now.dialect context.now.depth context.now.memory.now context.now.prelude.now
+        context.now.dialect.now context.now.depth context.now.memory.now context.now.prelude.now
         now.new) }
     ensures stands { OnOk result (All Stands context.now.prelude.now) }
     ensures links { AreLinks now.old.taken [] → OnOk result (AreLinks now.new.taken []) }
@@ -418,14 +418,14 @@ fn emit_anew<G: FragmentGrammar>(
     requires { AreRead env.now.scope.now }
     ensures steps { OnOk result (PutsOut steps.old steps.new
         (resolved_steps start env.now.scope.now.starts
-        (expanded_under (G.answer env.now.grammar.now) env.now.scope.now env.now.dialect
+        (expanded_under (G.answer env.now.grammar.now) env.now.scope.now env.now.dialect.now
         env.now.depth tree.value.inner).steps)) }
     ensures tree { IfOk result (λ q. tree_of q.value ≡ tree.value) }
     ensures holds { IfOk result (λ q. Holds q.value (parts_of
-        (expanded_under (G.answer env.now.grammar.now) env.now.scope.now env.now.dialect
+        (expanded_under (G.answer env.now.grammar.now) env.now.scope.now env.now.dialect.now
         env.now.depth tree.value.inner))) }
     ensures tokens { result ≡ Err TtFault.Tokens →
-        (expanded_under (G.answer env.now.grammar.now) env.now.scope.now env.now.dialect
+        (expanded_under (G.answer env.now.grammar.now) env.now.scope.now env.now.dialect.now
         env.now.depth tree.value.inner).bursts ≡ true }
 {
     let alloc = env.alloc;
@@ -452,17 +452,17 @@ fn emit_output<G: FragmentGrammar>(
 ) -> Result<Rc<Memo>, TtFault>
     requires { AreRead env.now.scope.now }
     ensures steps { let given = expanded_under (G.answer env.now.grammar.now) env.now.scope.now
-        env.now.dialect env.now.depth (tree_of plain.value).inner in
+        env.now.dialect.now env.now.depth (tree_of plain.value).inner in
         Holds plain.value (parts_of given) →
         OnOk result (PutsOut steps.old steps.new
         (resolved_steps start env.now.scope.now.starts given.steps)) }
     ensures tree { IfOk result (λ q. tree_of q.value ≡ tree_of plain.value) }
     ensures holds { let given = expanded_under (G.answer env.now.grammar.now) env.now.scope.now
-        env.now.dialect env.now.depth (tree_of plain.value).inner in
+        env.now.dialect.now env.now.depth (tree_of plain.value).inner in
         Holds plain.value (parts_of given) →
         IfOk result (λ q. Holds q.value (parts_of given)) }
     ensures tokens { result ≡ Err TtFault.Tokens →
-        (expanded_under (G.answer env.now.grammar.now) env.now.scope.now env.now.dialect
+        (expanded_under (G.answer env.now.grammar.now) env.now.scope.now env.now.dialect.now
         env.now.depth (tree_of plain.value).inner).bursts ≡ true }
 {
     let (alloc, starts) = (env.alloc, &env.scope.starts);
@@ -492,7 +492,7 @@ fn emit_plain<G: FragmentGrammar>(
 ) -> Result<Rc<Memo>, TtFault>
     requires { AreRead env.now.scope.now }
     ensures steps { let given = expanded_under (G.answer env.now.grammar.now) env.now.scope.now
-        env.now.dialect env.now.depth (tree_of plain.value).inner in
+        env.now.dialect.now env.now.depth (tree_of plain.value).inner in
         Holds plain.value (parts_of given) →
         OnOk result (PutsOut steps.old steps.new
         (resolved_steps start env.now.scope.now.starts given.steps)) }
@@ -500,11 +500,11 @@ fn emit_plain<G: FragmentGrammar>(
         ≡ faults.old.items ++ resolved_faults start env.now.scope.now.starts q.value.faults.items) }
     ensures tree { IfOk result (λ q. tree_of q.value ≡ tree_of plain.value) }
     ensures holds { let given = expanded_under (G.answer env.now.grammar.now) env.now.scope.now
-        env.now.dialect env.now.depth (tree_of plain.value).inner in
+        env.now.dialect.now env.now.depth (tree_of plain.value).inner in
         Holds plain.value (parts_of given) →
         IfOk result (λ q. Holds q.value (parts_of given)) }
     ensures tokens { result ≡ Err TtFault.Tokens →
-        (expanded_under (G.answer env.now.grammar.now) env.now.scope.now env.now.dialect
+        (expanded_under (G.answer env.now.grammar.now) env.now.scope.now env.now.dialect.now
         env.now.depth (tree_of plain.value).inner).bursts ≡ true }
 {
     let plain = emit_output(env, steps, start, plain)?;
@@ -564,12 +564,12 @@ fn evaluate_plain<G: FragmentGrammar>(
     requires link { IfSome link (λ i. slice_get (plain_tops context.now.memory.now.plains.items) i
         ≡ Some tree.now.value) }
     requires right { IsCache (world (G.answer context.now.grammar.now) now.old.scope.edition
-        context.now.dialect) context.now.depth now.old.scope.edition context.now.memory.now }
+        context.now.dialect.now) context.now.depth now.old.scope.edition context.now.memory.now }
     requires room { now.old.taken.expanded + 1 < 2 ^ 64 }
     ensures taken { (piece : Forest) → start ≡ first_start piece → tree.now.value
         ≡ own_top (relative piece) →
         OnOk result (Evaluates (G.answer context.now.grammar.now) now.old.scope.edition
-        context.now.dialect context.now.depth context.now.memory.now piece now.old now.new) }
+        context.now.dialect.now context.now.depth context.now.memory.now piece now.old now.new) }
     ensures links { (trees : List Top) → AreLinks now.old.taken trees →
         OnOk result (AreLinks now.new.taken (trees ++ tree.now.value ∷ [])) }
     ensures numbers { OnOk result (now.new.taken.numbers ≡ now.old.taken.numbers) }
@@ -577,7 +577,7 @@ fn evaluate_plain<G: FragmentGrammar>(
     ensures lookup { OnOk result (IndexesMemos now.new.lookup context.now.memory.now.plains.items) }
     ensures expanded { OnOk result (now.new.taken.expanded ≤ now.old.taken.expanded + 1) }
     ensures tokens { result ≡ Err TtFault.Tokens →
-        (expanded_under (G.answer context.now.grammar.now) now.old.scope context.now.dialect
+        (expanded_under (G.answer context.now.grammar.now) now.old.scope context.now.dialect.now
         context.now.depth tree.now.value.inner).bursts ≡ true }
 {
     laws::equal_pieces();
@@ -610,16 +610,16 @@ fn evaluate_piece<G: FragmentGrammar>(
     own: &Piece,
 ) -> Result<(), Refusal>
     requires right { IsCache (world (G.answer context.now.grammar.now) now.old.scope.edition
-        context.now.dialect) context.now.depth now.old.scope.edition context.now.memory.now }
+        context.now.dialect.now) context.now.depth now.old.scope.edition context.now.memory.now }
     requires can { CanDefine context.now.memory.now now.old }
     requires places { LooksAtNoPlace
-        (world (G.answer context.now.grammar.now) now.old.scope.edition context.now.dialect) }
+        (world (G.answer context.now.grammar.now) now.old.scope.edition context.now.dialect.now) }
     requires room { now.old.taken.expanded + 1 < 2 ^ 64 }
     requires lookup { IndexesMemos now.old.lookup context.now.memory.now.plains.items }
     requires own { IsOwn (piece_at own.now) own.now }
     requires met { IsMetIn context.now.memory.now.sources own.now.met (tree_at own.now) }
     ensures taken { OnOk result (Evaluates (G.answer context.now.grammar.now) now.old.scope.edition
-        context.now.dialect context.now.depth context.now.memory.now (piece_at own.now)
+        context.now.dialect.now context.now.depth context.now.memory.now (piece_at own.now)
         now.old now.new) }
     ensures links { (trees : List Top) → AreLinks now.old.taken trees →
         OnOk result (AreLinks now.new.taken (trees ++ tree_at own.now ∷ [])) }
@@ -629,7 +629,7 @@ fn evaluate_piece<G: FragmentGrammar>(
     ensures expanded { OnOk result (now.new.taken.expanded ≤ now.old.taken.expanded + 1) }
     ensures tokens { result ≡ Err Refusal.Tokens →
         MakesTooMany (G.answer context.now.grammar.now) now.old.scope.edition
-        context.now.dialect context.now.depth (piece_at own.now) now.old }
+        context.now.dialect.now context.now.depth (piece_at own.now) now.old }
     ensures cause { let memory = context.now.memory.now in (trees : List Forest) →
         HasNumbered memory.given memory.by_tree (trees_of memory) trees now.old.taken.numbers →
         result ≡ Err Refusal.Numbers →
@@ -662,12 +662,12 @@ pub(crate) fn evaluate_pieces<G: FragmentGrammar>(
     pieces: &[Piece],
     bytes: usize,
 ) -> Result<Evaluated, Refusal>
-    requires right { IsCache (world (G.answer context.now.grammar.now) edition context.now.dialect)
+    requires right { IsCache (world (G.answer context.now.grammar.now) edition context.now.dialect.now)
         context.now.depth edition context.now.memory.now }
     requires own { All IsOwnPiece pieces.now }
     requires met { AreMet context.now.memory.now.sources pieces.now }
     ensures taken { let grammar = G.answer context.now.grammar.now in
-        let dialect = context.now.dialect in let depth = context.now.depth in
+        let dialect = context.now.dialect.now in let depth = context.now.depth in
         let prelude = context.now.prelude.now in
         let trees = map piece_at pieces.now in
         IfOk result (λ now. IsEvaluated (world grammar edition dialect) edition depth
@@ -678,7 +678,7 @@ pub(crate) fn evaluate_pieces<G: FragmentGrammar>(
     ensures stands { IfOk result (λ now. All Stands context.now.prelude.now) }
     ensures links { IfOk result (λ now. AreLinks now (map tree_at pieces.now)) }
     ensures tokens { result ≡ Err Refusal.Tokens → list_any bursts (members_after
-        (layers (G.answer context.now.grammar.now) edition context.now.dialect) context.now.depth
+        (layers (G.answer context.now.grammar.now) edition context.now.dialect.now) context.now.depth
         (definitions_of context.now.prelude.now) (map piece_at pieces.now)) ≡ true }
     ensures numbers { result ≡ Err Refusal.Numbers → NeedsMore context.now.memory.now
         (definition_trees context.now.prelude.now ++ definition_trees (map piece_at pieces.now)) }

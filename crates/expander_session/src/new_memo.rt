@@ -37,10 +37,10 @@ fn printed_output<G: FragmentGrammar>(
 ) -> Result<Option<Expanding<CachedOutput>>, TtFault>
     requires { AreRead env.now.scope.now }
     ensures parts { IfOk result (λ o. IfSome o (λ given. HasParts tree.now.inner given (parts_of
-        (expanded_under (G.answer env.now.grammar.now) env.now.scope.now env.now.dialect
+        (expanded_under (G.answer env.now.grammar.now) env.now.scope.now env.now.dialect.now
         env.now.depth tree.now.inner)))) }
     ensures tokens { result ≡ Err TtFault.Tokens →
-        (expanded_under (G.answer env.now.grammar.now) env.now.scope.now env.now.dialect
+        (expanded_under (G.answer env.now.grammar.now) env.now.scope.now env.now.dialect.now
         env.now.depth tree.now.inner).bursts ≡ true }
 {
     let none = nothing_printed(env.alloc, tree)?;
@@ -93,10 +93,10 @@ fn kept_output<G: FragmentGrammar>(
 ) -> Result<Expanding<CachedOutput>, TtFault>
     requires { AreRead env.now.scope.now }
     ensures parts { IfOk result (λ given. HasParts tree.now.inner given (parts_of
-        (expanded_under (G.answer env.now.grammar.now) env.now.scope.now env.now.dialect
+        (expanded_under (G.answer env.now.grammar.now) env.now.scope.now env.now.dialect.now
         env.now.depth tree.now.inner))) }
     ensures tokens { result ≡ Err TtFault.Tokens →
-        (expanded_under (G.answer env.now.grammar.now) env.now.scope.now env.now.dialect
+        (expanded_under (G.answer env.now.grammar.now) env.now.scope.now env.now.dialect.now
         env.now.depth tree.now.inner).bursts ≡ true }
 {
     let own = nothing_printed(env.alloc, tree)?;
@@ -123,10 +123,10 @@ fn output_to_cache<G: FragmentGrammar>(
 ) -> Result<Expanding<CachedOutput>, TtFault>
     requires { AreRead env.now.scope.now }
     ensures parts { IfOk result (λ given. HasParts tree.now.inner given (parts_of
-        (expanded_under (G.answer env.now.grammar.now) env.now.scope.now env.now.dialect
+        (expanded_under (G.answer env.now.grammar.now) env.now.scope.now env.now.dialect.now
         env.now.depth tree.now.inner))) }
     ensures tokens { result ≡ Err TtFault.Tokens →
-        (expanded_under (G.answer env.now.grammar.now) env.now.scope.now env.now.dialect
+        (expanded_under (G.answer env.now.grammar.now) env.now.scope.now env.now.dialect.now
         env.now.depth tree.now.inner).bursts ≡ true }
 {
     if as_part && may_part_quotes(env.alloc, tree)? {
@@ -160,10 +160,10 @@ pub(crate) fn expanded<G: FragmentGrammar>(
     requires { AreRead env.now.scope.now }
     ensures tree { IfOk result (λ q. tree_of q.value ≡ tree.value) }
     ensures holds { IfOk result (λ q. Holds q.value (parts_of
-        (expanded_under (G.answer env.now.grammar.now) env.now.scope.now env.now.dialect
+        (expanded_under (G.answer env.now.grammar.now) env.now.scope.now env.now.dialect.now
         env.now.depth tree.value.inner))) }
     ensures tokens { result ≡ Err TtFault.Tokens →
-        (expanded_under (G.answer env.now.grammar.now) env.now.scope.now env.now.dialect
+        (expanded_under (G.answer env.now.grammar.now) env.now.scope.now env.now.dialect.now
         env.now.depth tree.value.inner).bursts ≡ true }
 {
     let Expanding {

@@ -387,7 +387,7 @@ impl<G: FragmentGrammar + Drop> Session<G> {
         let context = EvaluationContext {
             alloc,
             grammar: &self.grammar,
-            dialect: self.dialect,
+            dialect: &self.dialect,
             depth: self.depth,
             memory: &self.memory,
             prelude: &self.prelude,
@@ -409,18 +409,18 @@ fn expand_pieces<G: FragmentGrammar>(
     bytes: usize,
 ) -> Result<(Expansion, Cache), Refusal>
     requires right { IsCache
-        (world (G.answer context.now.grammar.now) edition context.now.dialect)
+        (world (G.answer context.now.grammar.now) edition context.now.dialect.now)
         context.now.depth edition context.now.memory.now }
     requires own { All IsOwnPiece pieces.now }
     requires sources { AreSegments sources }
     requires theirs { AreTheirs sources pieces.now }
     requires met { AreMet context.now.memory.now.sources pieces.now }
     ensures taken { IfOk result (λ r. EvaluatesText (G.answer context.now.grammar.now) edition
-        context.now.dialect context.now.depth context.now.memory.now context.now.prelude.now
+        context.now.dialect.now context.now.depth context.now.memory.now context.now.prelude.now
         (map piece_at pieces.now) r.0 r.1) }
     ensures stands { IfOk result (λ r. All Stands context.now.prelude.now) }
     ensures tokens { result ≡ Err Refusal.Tokens → list_any bursts (members_after
-        (layers (G.answer context.now.grammar.now) edition context.now.dialect) context.now.depth
+        (layers (G.answer context.now.grammar.now) edition context.now.dialect.now) context.now.depth
         (definitions_of context.now.prelude.now) (map piece_at pieces.now)) ≡ true }
     ensures numbers { result ≡ Err Refusal.Numbers → NeedsMore context.now.memory.now
         (definition_trees context.now.prelude.now ++ definition_trees (map piece_at pieces.now)) }

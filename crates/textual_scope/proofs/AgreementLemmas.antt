@@ -17,7 +17,7 @@ use Rattle.expander_model.specs.declared.begun.Begun.{Begun}
 use Rattle.expander_model.specs.declared.begun.Begun.TheVariants.{Nothing}
 use Rattle.expander_model.specs.declared.dialect.Dialect.{Dialect}
 use Rattle.expander_model.specs.declared.scope_rules.Standing.TheVariants.{Argument}
-use Rattle.expander_model.specs.Scoping.{Around, Scoped, Search, definition_in, in_group, behind, only, and_next, in_brackets, fitted, at_level, unbroken, looked_up, at_key, at_call, kept_call, search_leaf, found_at, is_expanded, is_alone_in, takes_end, search_trees, search_piece, search_pieces, search_list, scoped}
+use Rattle.expander_model.specs.Scoping.{Around, Scoped, Search, PieceKind, out_piece, definition_piece, plain_piece, kind_in, in_group, behind, only, and_next, in_brackets, fitted, at_level, unbroken, looked_up, at_key, at_call, kept_call, search_leaf, found_at, is_expanded, is_alone_in, takes_end, search_trees, search_piece, search_pieces, search_list, scoped}
 use Rattle.textual_scope.proofs.ResultLemmas.{same_next}
 
 module _ {X : Type 0} (P : X → Type 0) where
@@ -158,17 +158,18 @@ module _ {D : Type 0} (dialect : Dialect) (world : World D) (local : Definition 
         around (agree_call path name deep deep' deeper around site kept kept' (agree_kept around path name bang d (unmarked a)))
         (λ here k. agree_trees (after_call gone s d.kind) here rest k) h
 
-    agree_part : (around : Around) (p : Forest) (d : Option Definition)
-        → Agree (search_piece dialect world local scope one deep around p d) (search_piece dialect world local others two deep' around p d)
-    agree_part around p (Some d) h = refl
-    agree_part around p None h = agree_trees Nothing around (marked p) h
+    agree_part : (around : Around) (p : Forest) (k : PieceKind)
+        → Agree (search_piece dialect world local scope one deep around p k) (search_piece dialect world local others two deep' around p k)
+    agree_part around p out_piece h = refl
+    agree_part around p (definition_piece d) h = refl
+    agree_part around p plain_piece h = agree_trees Nothing around (marked p) h
 
     agree_parts : (around : Around) (ps : List Forest) → Agree (search_pieces dialect world local scope one deep around ps) (search_pieces dialect world local others two deep' around ps)
     agree_parts around [] h = refl
     agree_parts around (p ∷ ps) h =
-        agree_next (search_piece dialect world local scope one deep around p (definition_in dialect.scope p)) (search_piece dialect world local others two deep' around p (definition_in dialect.scope p))
+        agree_next (search_piece dialect world local scope one deep around p (kind_in dialect around.standing p)) (search_piece dialect world local others two deep' around p (kind_in dialect around.standing p))
         (λ here. search_pieces dialect world local scope one deep here ps) (λ here. search_pieces dialect world local others two deep' here ps)
-        around (agree_part around p (definition_in dialect.scope p)) (λ here k. agree_parts here ps k) h
+        around (agree_part around p (kind_in dialect around.standing p)) (λ here k. agree_parts here ps k) h
 
   agree_list : (deep deep' : Option (Search D)) → AgreeDeeper deep deep' → (n : ℕ) → AgreeIn (search_list dialect world local scope deep n) (search_list dialect world local others deep' n)
   agree_list deep deep' deeper zero around f h = refl

@@ -19,6 +19,10 @@ use Rattle.expander_model.specs.Calls.{Path, bare, from_crate, other, Marked, no
 use Rattle.expander_model.specs.Changes.{outcome_with, Changes, ScopeChange}
 use Rattle.expander_model.specs.Definitions.{Definition, nearest}
 use Rattle.cfg_options.specs.Conditions.{or_else}
+use Rattle.cfg_options.specs.Options.{options_of}
+use Rattle.cfg_options.specs.Strings.{string_text}
+use Rattle.cfg_options.specs.declared.options.CfgOptions.{CfgOptions}
+use Rattle.expander_model.proofs.ConditionPlaceLemmas.{left_out-with, string_text-with}
 use Rattle.expander_model.specs.Pieces.{cut}
 use Rattle.expander_model.specs.Expansion.{World, Outcome, CallSite, just, followed_by, grouped, faulted, found, bursting, before_group, whole_call}
 use Rattle.expander_model.specs.OtherPlaces.{definition_with}
@@ -30,9 +34,9 @@ use Rattle.expander_model.specs.declared.dialect.Dialect.{Dialect}
 use Rattle.expander_model.specs.declared.scope_rules.ScopeRules.{ScopeRules}
 use Rattle.expander_model.specs.declared.scope_rules.ScopeRules.TheVariants.{TopLevel, Rust}
 use Rattle.textual_scope.specs.ScopeChanges.{around_with, scoped_with}
-use Rattle.expander_model.specs.declared.scope_rules.Standing.TheVariants.{Argument}
+use Rattle.expander_model.specs.declared.scope_rules.Standing.TheVariants.{Top, Enclosed, Items, Argument}
 use Rattle.expander_model.specs.declared.scope_rules.Standing.{Standing}
-use Rattle.expander_model.specs.Scoping.{Around, Scoped, Search, definition_in, is_left_out, in_group, behind, only, and_next, in_brackets, defined, fitted, at_level, unbroken, looked_up, at_key, at_call, kept_call, search_leaf, found_at, is_expanded, is_alone_in, takes_end, search_trees, search_piece, search_pieces, search_list, scoped}
+use Rattle.expander_model.specs.Scoping.{Around, Scoped, Search, PieceKind, out_piece, definition_piece, plain_piece, definition_in, is_out, kind_of, kind_in, is_left_out, in_group, behind, only, and_next, in_brackets, defined, fitted, at_level, unbroken, looked_up, at_key, at_call, kept_call, search_leaf, found_at, is_expanded, is_alone_in, takes_end, search_trees, search_piece, search_pieces, search_list, scoped}
 use Rattle.textual_scope.proofs.MarkChangeLemmas.{ident_with, punct_with, path_with, marked_with, marked-with, in_front-with, unmarked-with, cut-with, outer-with, site_with, followed-with, just-with, walk-with, grouped-with, stays-with}
 use Rattle.textual_scope.proofs.ResultLemmas.{scoped_same}
 use Rattle.textual_scope.proofs.StateLemmas.{after_leaf-with, is_dropped-with}
@@ -48,6 +52,34 @@ nearest-with f (d ∷ locals) name =
 definition_in-with : (f : Span → Span) (rules : ScopeRules) (g : Forest) → definition_in rules (map_spans f g) ≡ option_map (definition_with f) (definition_in rules g)
 definition_in-with f TopLevel g = refl
 definition_in-with f Rust g = definition_of-with f g
+
+-- what is left out is left out at other spans too
+is_out-with : (f : Span → Span) (cfg : Option CfgOptions) (standing : Standing) (g : Forest) → is_out cfg standing (map_spans f g) ≡ is_out cfg standing g
+is_out-with f None standing g = refl
+is_out-with f (Some options) Argument g = refl
+is_out-with f (Some options) Top g = left_out-with (options_of options) string_text string_text-with f true g
+is_out-with f (Some options) Enclosed g = left_out-with (options_of options) string_text string_text-with f false g
+is_out-with f (Some options) Items g = left_out-with (options_of options) string_text string_text-with f true g
+
+-- what a piece is, at other spans
+kind_with : (Span → Span) → PieceKind → PieceKind
+kind_with f out_piece = out_piece
+kind_with f (definition_piece d) = definition_piece (definition_with f d)
+kind_with f plain_piece = plain_piece
+
+kind_in-with : (f : Span → Span) (dialect : Dialect) (standing : Standing) (g : Forest) → kind_in dialect standing (map_spans f g) ≡ kind_with f (kind_in dialect standing g)
+kind_in-with f dialect standing g =
+    ap (λ b. if b then out_piece else kind_of (definition_in dialect.scope (map_spans f g))) (is_out-with f dialect.cfg standing g)
+    ∙ go (is_out dialect.cfg standing g)
+  where
+    of : (d : Option Definition) → kind_of (option_map (definition_with f) d) ≡ kind_with f (kind_of d)
+    of None = refl
+    of (Some d) = refl
+
+    go : (b : Bool) → (if b then out_piece else kind_of (definition_in dialect.scope (map_spans f g)))
+        ≡ kind_with f (if b then out_piece else kind_of (definition_in dialect.scope g))
+    go true = refl
+    go false = ap kind_of (definition_in-with f dialect.scope g) ∙ of (definition_in dialect.scope g)
 
 behind-with : (f : Span → Span) (ds : List Definition) (around : Around) → behind (map (definition_with f) ds) (around_with f around) ≡ around_with f (behind ds around)
 behind-with f ds around = ap (λ l. record { standing = around.standing; outer = option_map f around.outer; locals = l }) (sym (map-append (definition_with f) ds around.locals))
@@ -267,22 +299,23 @@ module _ {D E : Type 0} (f : Span → Span) (h : D → E) where
           (ap gone' (unmarked-with f a) ∙ end-with s around path name d (unmarked a) deep deep' deeper)
           ∙ trees-with (after_call gone s d.kind) here rest)
 
-      part-with : (around : Around) (p : Forest) (d : Option Definition)
-          → search_piece dialect v local' changed two deep' (around_with f around) (map_spans f p) (option_map (definition_with f) d)
-          ≡ scoped_with f h (search_piece dialect w local scope one deep around p d)
-      part-with around p (Some d) = defined-with around d
-      part-with around p None =
+      part-with : (around : Around) (p : Forest) (k : PieceKind)
+          → search_piece dialect v local' changed two deep' (around_with f around) (map_spans f p) (kind_with f k)
+          ≡ scoped_with f h (search_piece dialect w local scope one deep around p k)
+      part-with around p out_piece = ap (λ (o : Outcome E). only o) (just-with f h around.outer [])
+      part-with around p (definition_piece d) = defined-with around d
+      part-with around p plain_piece =
           ap (search_trees dialect v local' changed two deep' Nothing (around_with f around)) (marked-with f p) ∙ trees-with Nothing around (marked p)
 
       parts_of-with : (around : Around) (ps : List Forest)
           → search_pieces dialect v local' changed two deep' (around_with f around) (map (map_spans f) ps) ≡ scoped_with f h (search_pieces dialect w local scope one deep around ps)
       parts_of-with around [] = ap (λ (o : Outcome E). only o) (just-with f h around.outer [])
       parts_of-with around (p ∷ ps) =
-          next-with (search_piece dialect w local scope one deep around p (definition_in dialect.scope p))
-          (search_piece dialect v local' changed two deep' (around_with f around) (map_spans f p) (definition_in dialect.scope (map_spans f p)))
+          next-with (search_piece dialect w local scope one deep around p (kind_in dialect around.standing p))
+          (search_piece dialect v local' changed two deep' (around_with f around) (map_spans f p) (kind_in dialect around.standing (map_spans f p)))
           (λ here. search_pieces dialect w local scope one deep here ps) (λ here. search_pieces dialect v local' changed two deep' here (map (map_spans f) ps))
           around
-          (ap (search_piece dialect v local' changed two deep' (around_with f around) (map_spans f p)) (definition_in-with f dialect.scope p) ∙ part-with around p (definition_in dialect.scope p))
+          (ap (search_piece dialect v local' changed two deep' (around_with f around) (map_spans f p)) (kind_in-with f dialect around.standing p) ∙ part-with around p (kind_in dialect around.standing p))
           (λ here. parts_of-with here ps)
 
     list-with : (deep : Option (Search D)) (deep' : Option (Search E)) → DeeperWith deep deep' → (n : ℕ)

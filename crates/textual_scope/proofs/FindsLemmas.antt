@@ -17,7 +17,7 @@ use Rattle.expander_model.specs.declared.begun.Begun.{Begun}
 use Rattle.expander_model.specs.declared.begun.Begun.TheVariants.{Nothing}
 use Rattle.expander_model.specs.declared.dialect.Dialect.{Dialect}
 use Rattle.expander_model.specs.declared.scope_rules.Standing.TheVariants.{Argument}
-use Rattle.expander_model.specs.Scoping.{Around, Scoped, Search, definition_in, is_left_out, in_group, behind, and_next, in_brackets, defined, fitted, at_level, unbroken, looked_up, at_key, at_call, kept_call, search_leaf, takes_end, search_trees, search_piece, search_pieces, search_list, scoped}
+use Rattle.expander_model.specs.Scoping.{Around, Scoped, Search, PieceKind, out_piece, definition_piece, plain_piece, kind_in, is_left_out, in_group, behind, and_next, in_brackets, defined, fitted, at_level, unbroken, looked_up, at_key, at_call, kept_call, search_leaf, takes_end, search_trees, search_piece, search_pieces, search_list, scoped}
 
 module _ {D : Type 0} (dialect : Dialect) (world : World D) (local : Definition → D) (scope : List ℕ → Option D) where
   -- a look-up is what the scope finds
@@ -98,15 +98,16 @@ module _ {D : Type 0} (dialect : Dialect) (world : World D) (local : Definition 
         found_next (at_call dialect world local scope deeper around path name site kept) (λ here. search_trees dialect world local scope search deeper (after_call gone s d.kind) here rest)
         around (found_call path name deeper below around site kept (found_kept around path name bang d (unmarked a))) (λ here. found_trees (after_call gone s d.kind) here rest)
 
-    found_part : (around : Around) (p : Forest) (d : Option Definition) → Found (search_piece dialect world local scope search deeper around p d)
-    found_part around p (Some d) = found_defined around d
-    found_part around p None = found_trees Nothing around (marked p)
+    found_part : (around : Around) (p : Forest) (k : PieceKind) → Found (search_piece dialect world local scope search deeper around p k)
+    found_part around p out_piece = All-nil IsFound
+    found_part around p (definition_piece d) = found_defined around d
+    found_part around p plain_piece = found_trees Nothing around (marked p)
 
     found_parts : (around : Around) (ps : List Forest) → Found (search_pieces dialect world local scope search deeper around ps)
     found_parts around [] = All-nil IsFound
     found_parts around (p ∷ ps) =
-        found_next (search_piece dialect world local scope search deeper around p (definition_in dialect.scope p)) (λ here. search_pieces dialect world local scope search deeper here ps)
-        around (found_part around p (definition_in dialect.scope p)) (λ here. found_parts here ps)
+        found_next (search_piece dialect world local scope search deeper around p (kind_in dialect around.standing p)) (λ here. search_pieces dialect world local scope search deeper here ps)
+        around (found_part around p (kind_in dialect around.standing p)) (λ here. found_parts here ps)
 
   found_list : (deeper : Option (Search D)) → FoundDeeper deeper → (n : ℕ) → FoundBy (search_list dialect world local scope deeper n)
   found_list deeper below zero around f = All-nil IsFound

@@ -25,7 +25,7 @@ use Rattle.expander_model.specs.declared.begun.Begun.TheVariants.{Nothing, Pound
 use Rattle.expander_model.specs.declared.dialect.Dialect.{Dialect}
 use Rattle.small_grammar.specs.Text.{has_text}
 use Rattle.textual_scope.specs.FromLeft.{is_begun, piece_ahead, with_leaf, with_group, AreOfCall, pieces_left, trees_left, left_after}
-use Rattle.expander_model.specs.Scoping.{Around, Scoped, Search, in_group, only, and_next, in_brackets, defined, definition_in, at_call, kept_call, found_at, is_expanded, is_items, takes_end, search_leaf, search_trees, search_piece, search_pieces}
+use Rattle.expander_model.specs.Scoping.{Around, Scoped, Search, in_group, only, and_next, in_brackets, defined, out_piece, definition_piece, plain_piece, kind_in, at_call, kept_call, found_at, is_expanded, is_items, takes_end, search_leaf, search_trees, search_piece, search_pieces}
 use Rattle.textual_scope.proofs.ChainLemmas.{chain, IsShut, IsEnd, end_leaf, end_at_leaf, end_at_group, end_behind, leaf_chain, shut_leaf}
 use Rattle.textual_scope.proofs.MarkLemmas.{unmarked-marked}
 use Rattle.textual_scope.proofs.ResultLemmas.{and_next_assoc, and_nothing}
@@ -588,14 +588,23 @@ module _ {D : Type 0} (dialect : Dialect) (world : World D) (local : Definition 
   left_nothing s around = and_nothing (only (just around.outer [])) around
 
   -- a definition that is ahead
-  pub at_definition : (around : Around) (f p rest : Forest) (d : Definition) → cut f ≡ p ∷ cut rest → definition_in dialect.scope p ≡ Some d
+  pub at_definition : (around : Around) (f p rest : Forest) (d : Definition) → cut f ≡ p ∷ cut rest
+      → kind_in dialect around.standing p ≡ definition_piece d
       → pieces around f ≡ and_next (defined dialect world local scope around d) (λ here. pieces here rest) around
   at_definition around f p rest d are e =
       ap (λ ps. search_pieces dialect world local scope search deeper around ps) are
       ∙ ap (λ r. and_next (search_piece dialect world local scope search deeper around p r) (λ here. pieces here rest) around) e
 
+  -- a piece that is left out
+  pub at_out : (around : Around) (f p rest : Forest) → cut f ≡ p ∷ cut rest → kind_in dialect around.standing p ≡ out_piece
+      → pieces around f ≡ pieces around rest
+  at_out around f p rest are e =
+      ap (λ ps. search_pieces dialect world local scope search deeper around ps) are
+      ∙ ap (λ r. and_next (search_piece dialect world local scope search deeper around p r) (λ here. pieces here rest) around) e
+      ∙ nothing_and around.outer (λ here. pieces here rest) around
+
   -- another piece
-  pub at_piece : (around : Around) (f : Forest) → f ≢ empty → ((p : Forest) (ps : List Forest) → cut f ≡ p ∷ ps → definition_in dialect.scope p ≡ None)
+  pub at_piece : (around : Around) (f : Forest) → f ≢ empty → ((p : Forest) (ps : List Forest) → cut f ≡ p ∷ ps → kind_in dialect around.standing p ≡ plain_piece)
       → pieces around f ≡ left Nothing around f
   at_piece around f some plain =
       let p : Forest × Forest = piece_ahead Nothing f in

@@ -18,7 +18,7 @@ use Rattle.expander_model.specs.declared.begun.Begun.TheVariants.{Nothing}
 use Rattle.expander_model.specs.declared.dialect.Dialect.{Dialect}
 use Rattle.textual_scope.specs.Limits.{Noted, definition, result, looked_in, unnoted, noted_world, noting, noted_list, noted}
 use Rattle.expander_model.specs.declared.scope_rules.Standing.TheVariants.{Argument}
-use Rattle.expander_model.specs.Scoping.{Around, Scoped, Search, definition_in, in_group, behind, only, and_next, in_brackets, is_left_out, defined, fitted, at_level, unbroken, looked_up, at_key, at_call, search_leaf, found_at, is_expanded, is_alone_in, takes_end, search_trees, search_piece, search_pieces, search_list, scoped}
+use Rattle.expander_model.specs.Scoping.{Around, Scoped, Search, PieceKind, out_piece, definition_piece, plain_piece, kind_in, in_group, behind, only, and_next, in_brackets, is_left_out, defined, fitted, at_level, unbroken, looked_up, at_key, at_call, search_leaf, found_at, is_expanded, is_alone_in, takes_end, search_trees, search_piece, search_pieces, search_list, scoped}
 use Rattle.textual_scope.proofs.ResultLemmas.{same_next}
 
 module _ {D : Type 0} where
@@ -172,17 +172,18 @@ module _ {D : Type 0} (dialect : Dialect) (world : World D) (local : Definition 
         (ap (λ (x : Scoped D). only (followed_by (just around.outer (walk (before_group path name bang))) (grouped around.outer d x.outcome))) (same inner (unmarked a))))
         (λ here. unnoted-trees (after_call gone s d.kind) here rest)
 
-    unnoted-part : (around : Around) (p : Forest) (d : Option Definition)
-        → unnoted (search_piece dialect world' local' scope' one deep around p d) ≡ search_piece dialect world local scope two deep' around p d
-    unnoted-part around p (Some d) = unnoted-defined around d
-    unnoted-part around p None = unnoted-trees Nothing around (marked p)
+    unnoted-part : (around : Around) (p : Forest) (k : PieceKind)
+        → unnoted (search_piece dialect world' local' scope' one deep around p k) ≡ search_piece dialect world local scope two deep' around p k
+    unnoted-part around p out_piece = refl
+    unnoted-part around p (definition_piece d) = unnoted-defined around d
+    unnoted-part around p plain_piece = unnoted-trees Nothing around (marked p)
 
     unnoted-parts : (around : Around) (ps : List Forest) → unnoted (search_pieces dialect world' local' scope' one deep around ps) ≡ search_pieces dialect world local scope two deep' around ps
     unnoted-parts around [] = refl
     unnoted-parts around (p ∷ ps) =
-        unnoted-next (search_piece dialect world' local' scope' one deep around p (definition_in dialect.scope p)) (search_piece dialect world local scope two deep' around p (definition_in dialect.scope p))
+        unnoted-next (search_piece dialect world' local' scope' one deep around p (kind_in dialect around.standing p)) (search_piece dialect world local scope two deep' around p (kind_in dialect around.standing p))
         (λ here. search_pieces dialect world' local' scope' one deep here ps) (λ here. search_pieces dialect world local scope two deep' here ps)
-        around (unnoted-part around p (definition_in dialect.scope p)) (λ here. unnoted-parts here ps)
+        around (unnoted-part around p (kind_in dialect around.standing p)) (λ here. unnoted-parts here ps)
 
   unnoted-list : (deep : Option (Search (Noted D))) (deep' : Option (Search D)) → SameDeeper deep deep' → (n : ℕ)
       → SameNoted (noted_list dialect world local scope deep n) (search_list dialect world local scope deep' n)

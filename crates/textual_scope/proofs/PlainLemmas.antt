@@ -19,7 +19,7 @@ use Rattle.expander_model.specs.declared.dialect.Dialect.{Dialect}
 use Rattle.expander_model.specs.declared.scope_rules.ScopeRules.{ScopeRules}
 use Rattle.expander_model.specs.declared.scope_rules.Standing.TheVariants.{Argument}
 use Rattle.expander_model.specs.declared.scope_rules.Standing.{Standing}
-use Rattle.expander_model.specs.Scoping.{without_locals, Scoped, Search, definition_in, found_at, in_group, is_alone_in, is_expanded, only, in_brackets, fitted, at_level, unbroken, looked_up, at_key, at_call, search_leaf, takes_end, search_trees, search_piece, search_pieces, search_list, scoped}
+use Rattle.expander_model.specs.Scoping.{without_locals, Scoped, Search, PieceKind, out_piece, definition_piece, plain_piece, definition_in, is_out, kind_of, kind_in, found_at, in_group, is_alone_in, is_expanded, only, in_brackets, fitted, at_level, unbroken, looked_up, at_key, at_call, search_leaf, takes_end, search_trees, search_piece, search_pieces, search_list, scoped}
 use Rattle.textual_scope.proofs.ChainLemmas.{each, piece_by_piece}
 use Rattle.textual_scope.proofs.MarkLemmas.{AllInside, IsBelow, inside_marked}
 use Rattle.textual_scope.proofs.ResultLemmas.{same_next}
@@ -31,6 +31,12 @@ abbrev pub ArePlain : ScopeRules → (Forest → Type 0) → List Forest → Typ
 ArePlain rules Plain [] = Unit {0}
 ArePlain rules Plain (p ∷ ps) = (definition_in rules p ≡ None) × Plain p × ArePlain rules Plain ps
 
+-- where nothing is left out, a piece that is no definition is plain
+pub kind_plain : (dialect : Dialect) (standing : Standing) (p : Forest) → dialect.cfg ≡ None → definition_in dialect.scope p ≡ None
+    → kind_in dialect standing p ≡ plain_piece
+kind_plain dialect standing p whole e =
+    ap (λ c. if is_out c standing p then out_piece else kind_of (definition_in dialect.scope p)) whole ∙ ap kind_of e
+
 -- no call takes the `;` behind it along: by the dialect, or since names find nothing
 abbrev pub KeepsEnds : {D : Type 0} → Dialect → (List ℕ → Option D) → Type 0
 KeepsEnds dialect scope = (dialect.items ≡ false) ⊎ ((key : List ℕ) → scope key ≡ None)
@@ -39,6 +45,7 @@ KeepsEnds dialect scope = (dialect.items ≡ false) ⊎ ((key : List ℕ) → sc
 pub record HasNone {D : Type 0} (dialect : Dialect) (world : World D) (scope : List ℕ → Option D) (Plain : Forest → Type 0) : Type 0 where
   pub in_parts : (f : Forest) → Plain f → ArePlain dialect.scope Plain (cut f)
   pub keeps : KeepsEnds dialect scope
+  pub whole : dialect.cfg ≡ None
   pub inner : (f : Forest) → Plain f → AllInside (λ a. Plain (unmarked a)) (marked f)
   pub results : (key : List ℕ) (d : D) → scope key ≡ Some d → (argument result : Forest) → Plain argument → world.fit d argument ≡ Some result → Plain result
 
@@ -162,18 +169,19 @@ module _ {D : Type 0} (dialect : Dialect) (world : World D) (local : Definition 
           (ap of (held Argument outer a h.0 plain.0) ∙ calls standing outer site plain.0 path name deep deeper same kept)
           (trees (after_call gone s d.kind) (call_shown gone s d.kind stays) standing outer rest h.1 plain.1)
 
-      part : (standing : Standing) (outer : Option Span) (p : Forest) (d : Option Definition) → d ≡ None → size p ≤ k → Plain p
-          → search_piece dialect world local scope search deep (without_locals standing outer) p d ≡ only (expands outer (marked p))
-      part standing outer p None e h plain = trees Nothing tt standing outer (marked p) (inside_marked k p h) (has.inner p plain)
-      part standing outer p (Some d) e h plain = absurd (cc e)
+      part : (standing : Standing) (outer : Option Span) (p : Forest) (r : PieceKind) → r ≡ plain_piece → size p ≤ k → Plain p
+          → search_piece dialect world local scope search deep (without_locals standing outer) p r ≡ only (expands outer (marked p))
+      part standing outer p plain_piece e h plain = trees Nothing tt standing outer (marked p) (inside_marked k p h) (has.inner p plain)
+      part standing outer p (definition_piece d) e h plain = absurd (cc e)
+      part standing outer p out_piece e h plain = absurd (cc e)
 
       all_parts : (standing : Standing) (outer : Option Span) (ps : List Forest) → AreWithin k ps → ArePlain dialect.scope Plain ps
           → search_pieces dialect world local scope search deep (without_locals standing outer) ps ≡ only (each world scope deeper outer ps)
       all_parts standing outer [] h plain = refl
       all_parts standing outer (p ∷ ps) h plain =
-          same_next (only (expands outer (marked p))) (search_piece dialect world local scope search deep (without_locals standing outer) p (definition_in dialect.scope p))
+          same_next (only (expands outer (marked p))) (search_piece dialect world local scope search deep (without_locals standing outer) p (kind_in dialect standing p))
           (λ here. only (each world scope deeper outer ps)) (λ here. search_pieces dialect world local scope search deep here ps)
-          (without_locals standing outer) (part standing outer p (definition_in dialect.scope p) plain.0 h.0 plain.1) (all_parts standing outer ps h.1 plain.2)
+          (without_locals standing outer) (part standing outer p (kind_in dialect standing p) (kind_plain dialect standing p has.whole plain.0) h.0 plain.1) (all_parts standing outer ps h.1 plain.2)
 
     within_more : (n : ℕ) (ps : List Forest) (k : ℕ) → k ≤ n → AreWithin k ps → AreWithin n ps
     within_more n [] k less h = tt

@@ -19,7 +19,7 @@ use Rattle.expander_model.specs.declared.begun.Begun.TheVariants.{Nothing}
 use Rattle.expander_model.specs.declared.dialect.Dialect.{Dialect}
 use Rattle.textual_scope.specs.Limits.{Limits, Noted, definition, result, noted_world, noting, noted_list, noted, until_passed, too_large}
 use Rattle.expander_model.specs.declared.scope_rules.Standing.TheVariants.{Argument}
-use Rattle.expander_model.specs.Scoping.{Around, Scoped, Search, definition_in, in_group, behind, only, and_next, in_brackets, is_left_out, fitted, at_level, unbroken, looked_up, at_key, at_call, search_leaf, found_at, is_expanded, is_alone_in, takes_end, search_trees, search_piece, search_pieces}
+use Rattle.expander_model.specs.Scoping.{Around, Scoped, Search, PieceKind, out_piece, definition_piece, plain_piece, kind_in, in_group, behind, only, and_next, in_brackets, is_left_out, fitted, at_level, unbroken, looked_up, at_key, at_call, search_leaf, found_at, is_expanded, is_alone_in, takes_end, search_trees, search_piece, search_pieces}
 use Rattle.textual_scope.proofs.ResultLemmas.{same_next}
 
 -- ---- notes, as far as they agree
@@ -281,18 +281,19 @@ module _ {D : Type 0} (dialect : Dialect) (world : World D) (local : Definition 
         (sym (both_end s path name d (unmarked a) deep deep' deeper around site (of (one inner (unmarked a))) all))
         (both_trees (after_call gone s d.kind) here rest))
 
-    both_part : (around : Around) (p : Forest) (d : Option Definition)
-        → Both others (search_piece dialect (noted_world world) local' one_scope one deep around p d) (search_piece dialect (noted_world world) local' two_scope two deep' around p d)
-    both_part around p (Some d) = told (world.broken (local d)) around.outer (unwrap_or around.outer d.name.span) (if is_left_out around.standing then [] else walk d.piece) (d ∷ [])
-    both_part around p None = both_trees Nothing around (marked p)
+    both_part : (around : Around) (p : Forest) (k : PieceKind)
+        → Both others (search_piece dialect (noted_world world) local' one_scope one deep around p k) (search_piece dialect (noted_world world) local' two_scope two deep' around p k)
+    both_part around p out_piece = record { follow = refl; same = λ k. refl }
+    both_part around p (definition_piece d) = told (world.broken (local d)) around.outer (unwrap_or around.outer d.name.span) (if is_left_out around.standing then [] else walk d.piece) (d ∷ [])
+    both_part around p plain_piece = both_trees Nothing around (marked p)
 
     both_parts : (around : Around) (ps : List Forest)
         → Both others (search_pieces dialect (noted_world world) local' one_scope one deep around ps) (search_pieces dialect (noted_world world) local' two_scope two deep' around ps)
     both_parts around [] = record { follow = refl; same = λ k. refl }
     both_parts around (p ∷ ps) =
-        both_next others (search_piece dialect (noted_world world) local' one_scope one deep around p (definition_in dialect.scope p)) (search_piece dialect (noted_world world) local' two_scope two deep' around p (definition_in dialect.scope p))
+        both_next others (search_piece dialect (noted_world world) local' one_scope one deep around p (kind_in dialect around.standing p)) (search_piece dialect (noted_world world) local' two_scope two deep' around p (kind_in dialect around.standing p))
         (λ here. search_pieces dialect (noted_world world) local' one_scope one deep here ps) (λ here. search_pieces dialect (noted_world world) local' two_scope two deep' here ps)
-        around (both_part around p (definition_in dialect.scope p)) (λ all here. both_parts here ps)
+        around (both_part around p (kind_in dialect around.standing p)) (λ all here. both_parts here ps)
 
   both_list : (deep deep' : Option (Search (Noted D))) → BothDeeper deep deep' → (n : ℕ)
       → BothIn (noted_list dialect world local scope deep n) (noted_list dialect world local others deep' n)

@@ -5,7 +5,7 @@ use Rattle.tt_data.specs.Forest.{Forest}
 use Rattle.expander_model.specs.Definitions.{Definition}
 use Rattle.expander_model.specs.Expansion.{World, Outcome, just, followed_by}
 use Rattle.expander_model.specs.declared.dialect.Dialect.{Dialect}
-use Rattle.expander_model.specs.Scoping.{Around, Scoped, Search, definition_in, only, and_next, behind, search_piece, search_pieces}
+use Rattle.expander_model.specs.Scoping.{Around, Scoped, Search, kind_in, only, and_next, behind, search_piece, search_pieces}
 
 or_assoc : (a b c : Bool) → ((a || b) || c) ≡ (a || (b || c))
 or_assoc true b c = refl
@@ -73,7 +73,7 @@ module _ {D : Type 0} (dialect : Dialect) (world : World D) (local : Definition 
       ≡ and_next (search_pieces dialect world local scope search deeper around front) (λ here. search_pieces dialect world local scope search deeper here back) around
   parts-append around [] back = sym (nothing_and around.outer (λ here. search_pieces dialect world local scope search deeper here back) around)
   parts-append around (p ∷ front) back =
-      let a : Scoped D = search_piece dialect world local scope search deeper around p (definition_in dialect.scope p) in
+      let a : Scoped D = search_piece dialect world local scope search deeper around p (kind_in dialect around.standing p) in
       let f : Around → Scoped D = λ here. search_pieces dialect world local scope search deeper here front in
       let g : Around → Scoped D = λ here. search_pieces dialect world local scope search deeper here back in
       same_next a a (λ here. and_next (f here) g here) (λ here. search_pieces dialect world local scope search deeper here (front ++ back)) around

@@ -35,7 +35,7 @@ filled argument (group d inner rest) = group d (filled argument inner) (filled a
 
 -- these rules of scopes, and no other option
 abbrev pub by : ScopeRules → Dialect
-by rules = record { scope = rules; items = false }
+by rules = record { scope = rules; items = false; cfg = None }
 
 -- Rust's rules, where the `;` behind an item's call goes with it
 abbrev pub with_items : Dialect

@@ -48,6 +48,7 @@ module _ {D : Type 0} (world : World D) (local : Definition → D) (scope : List
   top_level_none = record {
     in_parts = λ f h. any_pieces (cut f);
     keeps = inl refl;
+    whole = refl;
     inner = λ f h. any_inside (marked f);
     results = λ key d e argument result h fit. tt;
   }
@@ -63,11 +64,12 @@ module _ {D : Type 0} (world : World D) (local : Definition → D) (scope : List
       (ap (λ (a : Scoped D). a.outcome) (top_level depth Top None f))
 
 -- without keywords no list has any by Rust's rules either
-without_keywords : (dialect : Dialect) → dialect.items ≡ false → (world : World Definition) (scope : List ℕ → Option Definition)
+without_keywords : (dialect : Dialect) → dialect.items ≡ false → dialect.cfg ≡ None → (world : World Definition) (scope : List ℕ → Option Definition)
     → ((key : List ℕ) (d : Definition) → scope key ≡ Some d → AddsNoKeyword world d) → HasNone dialect world scope HasNoKeyword
-without_keywords dialect keeps world scope adds = record {
+without_keywords dialect keeps whole world scope adds = record {
   in_parts = λ f h. plain_by HasNoKeyword dialect.scope (cut f) (plain_pieces f h);
   keeps = inl keeps;
+  whole = whole;
   inner = none_inside;
   results = λ key d e argument result h fit. adds key d e argument result h fit;
 }
@@ -75,39 +77,43 @@ without_keywords dialect keeps world scope adds = record {
 module _ (world : World Definition) (local : Definition → Definition) (scope : List ℕ → Option Definition)
     (adds : (key : List ℕ) (d : Definition) → scope key ≡ Some d → AddsNoKeyword world d) where
   -- by either rules, where each `;` stays
-  pub no_keyword_in : (dialect : Dialect) → dialect.items ≡ false → (depth : ℕ) (standing : Standing) (outer : Option _) (f : Forest) → HasNoKeyword f
+  pub no_keyword_in : (dialect : Dialect) → dialect.items ≡ false → dialect.cfg ≡ None → (depth : ℕ) (standing : Standing) (outer : Option _) (f : Forest) → HasNoKeyword f
       → scoped dialect world local scope depth (without_locals standing outer) f ≡ only (expansion world scope depth outer f)
-  no_keyword_in dialect keeps depth standing outer f h =
-      as_expansion dialect world local scope HasNoKeyword (without_keywords dialect keeps world scope adds) depth standing outer f h
+  no_keyword_in dialect keeps whole depth standing outer f h =
+      as_expansion dialect world local scope HasNoKeyword (without_keywords dialect keeps whole world scope adds) depth standing outer f h
 
-  pub wordless_expanded : world.dialect.items ≡ false → (depth : ℕ) (f : Forest) → HasNoKeyword f → expanded world local scope depth f ≡ expansion world scope depth None f
-  wordless_expanded keeps depth f h = ap (λ (a : Scoped Definition). a.outcome) (no_keyword_in world.dialect keeps depth Top None f h)
+  pub wordless_expanded : world.dialect.items ≡ false → world.dialect.cfg ≡ None → (depth : ℕ) (f : Forest) → HasNoKeyword f
+      → expanded world local scope depth f ≡ expansion world scope depth None f
+  wordless_expanded keeps whole depth f h = ap (λ (a : Scoped Definition). a.outcome) (no_keyword_in world.dialect keeps whole depth Top None f h)
 
 -- where names find nothing outside of lists, trees have no definitions if by the rules they have no keyword of one
 module _ {D : Type 0} (world : World D) (local : Definition → D) (depth : ℕ) (f : Forest) where
   abbrev Unfound : Dialect → Type 0
   Unfound dialect = scoped dialect world local (λ key. None) depth (without_locals Top None) f ≡ only (expansion world (λ key. None) depth None f)
 
-  unfound_by : (rules : ScopeRules) (items : Bool) → (rules ≡ Rust → HasNoKeyword f) → Unfound (record { scope = rules; items = items })
+  unfound_by : (rules : ScopeRules) (items : Bool) → (rules ≡ Rust → HasNoKeyword f) → Unfound (record { scope = rules; items = items; cfg = None })
   unfound_by TopLevel items h =
-      as_expansion (record { scope = TopLevel; items = items }) world local (λ key. None) Any
+      as_expansion (record { scope = TopLevel; items = items; cfg = None }) world local (λ key. None) Any
       (record {
         in_parts = λ g k. any_pieces (cut g);
         keeps = inr (λ key. refl);
+        whole = refl;
         inner = λ g k. any_inside (marked g);
         results = λ key d e argument result k fit. tt;
       }) depth Top None f tt
   unfound_by Rust items h =
-      as_expansion (record { scope = Rust; items = items }) world local (λ key. None) HasNoKeyword
+      as_expansion (record { scope = Rust; items = items; cfg = None }) world local (λ key. None) HasNoKeyword
       (record {
         in_parts = plain_pieces;
         keeps = inr (λ key. refl);
+        whole = refl;
         inner = none_inside;
         results = λ key d e argument result k fit. absurd (cc e);
       }) depth Top None f (h refl)
 
-  pub unfound_scoped : (dialect : Dialect) → (dialect.scope ≡ Rust → HasNoKeyword f) → Unfound dialect
-  unfound_scoped dialect h = unfound_by dialect.scope dialect.items h
+  pub unfound_scoped : (dialect : Dialect) → dialect.cfg ≡ None → (dialect.scope ≡ Rust → HasNoKeyword f) → Unfound dialect
+  unfound_scoped dialect whole h =
+      subst (λ c. Unfound (record { scope = dialect.scope; items = dialect.items; cfg = c })) (sym whole) (unfound_by dialect.scope dialect.items h)
 
 -- what the nearest definition of a name has, if all definitions have it
 nearest_has : (P : Definition → Type 0) (before : List Definition) → All P before → (key : List ℕ) (d : Definition) → nearest before key ≡ Some d → P d
@@ -132,17 +138,17 @@ module _ (layers : Layers) (depth : ℕ) where
   abbrev Nests : Forest → Type 0
   Nests p = NestsNone layers.world p (definition_of p)
 
-  same_members : layers.world.dialect.items ≡ false → (before : List Definition) (ps : List Forest) → All (AddsNoKeyword layers.world) before → All Nests ps
+  same_members : layers.world.dialect.items ≡ false → layers.world.dialect.cfg ≡ None → (before : List Definition) (ps : List Forest) → All (AddsNoKeyword layers.world) before → All Nests ps
       → members_after layers depth before ps ≡ top_members layers depth before ps
-  same_members keeps before [] adds nests = refl
-  same_members keeps before (p ∷ ps) adds nests =
+  same_members keeps whole before [] adds nests = refl
+  same_members keeps whole before (p ∷ ps) adds nests =
       ap (λ m. m ∷ members_after layers depth (with_definition (definition_of p) before) ps) (here (definition_of p) (All-head Nests p ps nests))
       ∙ ap (λ ms. top_member layers depth before p (definition_of p) ∷ ms)
-      (same_members keeps (with_definition (definition_of p) before) ps (more (definition_of p) (All-head Nests p ps nests)) (All-tail Nests p ps nests))
+      (same_members keeps whole (with_definition (definition_of p) before) ps (more (definition_of p) (All-head Nests p ps nests)) (All-tail Nests p ps nests))
     where
       here : (d : Option Definition) → NestsNone layers.world p d → member layers depth before p d ≡ top_member layers depth before p d
       here (Some d) h = refl
-      here None h = ap (plain p) (wordless_expanded layers.world (λ d. d) (nearest before) (nearest_has (AddsNoKeyword layers.world) before adds) keeps depth p h)
+      here None h = ap (plain p) (wordless_expanded layers.world (λ d. d) (nearest before) (nearest_has (AddsNoKeyword layers.world) before adds) keeps whole depth p h)
 
       more : (d : Option Definition) → NestsNone layers.world p d → All (AddsNoKeyword layers.world) (with_definition d before)
       more None h = adds
@@ -155,7 +161,7 @@ module _ (layers : Layers) (depth : ℕ) where
       go (Err fault) = refl
       go (Ok f) = ap (λ ms. Ok (meaning_of layers ms)) (top_level_members is initial (pieces f))
 
-  pub same_meaning : layers.world.dialect.items ≡ false → (initial : List Definition) (text : List ℕ) (f : Forest) → layers.read text ≡ Ok f
+  pub same_meaning : layers.world.dialect.items ≡ false → layers.world.dialect.cfg ≡ None → (initial : List Definition) (text : List ℕ) (f : Forest) → layers.read text ≡ Ok f
       → All (AddsNoKeyword layers.world) initial → All Nests (pieces f)
       → meaning_in layers depth initial text ≡ top_meaning layers depth initial text
-  same_meaning keeps initial text f e adds nests = rw e (ap (λ ms. Ok (meaning_of layers ms)) (same_members keeps initial (pieces f) adds nests))
+  same_meaning keeps whole initial text f e adds nests = rw e (ap (λ ms. Ok (meaning_of layers ms)) (same_members keeps whole initial (pieces f) adds nests))

@@ -13,7 +13,7 @@ use Rattle.expander_model.specs.declared.begun.Begun.{Begun}
 use Rattle.expander_model.specs.declared.begun.Begun.TheVariants.{Nothing}
 use Rattle.expander_model.specs.declared.dialect.Dialect.{Dialect}
 use Rattle.expander_model.specs.declared.scope_rules.Standing.TheVariants.{Argument}
-use Rattle.expander_model.specs.Scoping.{Around, Scoped, Search, definition_in, in_group, behind, only, in_brackets, at_call, search_leaf, takes_end, search_trees, search_piece, search_pieces, search_list}
+use Rattle.expander_model.specs.Scoping.{Around, Scoped, Search, PieceKind, out_piece, definition_piece, plain_piece, kind_in, in_group, behind, only, in_brackets, at_call, search_leaf, takes_end, search_trees, search_piece, search_pieces, search_list}
 use Rattle.textual_scope.proofs.MarkLemmas.{AllInside, IsBelow, inside_marked}
 use Rattle.textual_scope.proofs.ResultLemmas.{same_next}
 
@@ -74,19 +74,20 @@ module _ {D : Type 0} (dialect : Dialect) (world : World D) (local : Definition 
         (λ here. search_trees dialect world local scope one deeper (after_call gone s d.kind) here rest) (λ here. search_trees dialect world local scope two deeper (after_call gone s d.kind) here rest)
         around (ap of (same inner (unmarked a) h.0.less)) (same_trees (after_call gone s d.kind) (behind first.defines around) rest h.1)
 
-    same_part : (around : Around) (p : Forest) (d : Option Definition) → size p ≤ k
-        → search_piece dialect world local scope two deeper around p d ≡ search_piece dialect world local scope one deeper around p d
-    same_part around p (Some d) h = refl
-    same_part around p None h = same_trees Nothing around (marked p) (inside_marked k p h)
+    same_part : (around : Around) (p : Forest) (r : PieceKind) → size p ≤ k
+        → search_piece dialect world local scope two deeper around p r ≡ search_piece dialect world local scope one deeper around p r
+    same_part around p out_piece h = refl
+    same_part around p (definition_piece d) h = refl
+    same_part around p plain_piece h = same_trees Nothing around (marked p) (inside_marked k p h)
 
     pub same_parts : (around : Around) (ps : List Forest) → AreWithin k ps
         → search_pieces dialect world local scope two deeper around ps ≡ search_pieces dialect world local scope one deeper around ps
     same_parts around [] h = refl
     same_parts around (p ∷ ps) h =
-        let first : Scoped D = search_piece dialect world local scope one deeper around p (definition_in dialect.scope p) in
-        same_next first (search_piece dialect world local scope two deeper around p (definition_in dialect.scope p))
+        let first : Scoped D = search_piece dialect world local scope one deeper around p (kind_in dialect around.standing p) in
+        same_next first (search_piece dialect world local scope two deeper around p (kind_in dialect around.standing p))
         (λ here. search_pieces dialect world local scope one deeper here ps) (λ here. search_pieces dialect world local scope two deeper here ps)
-        around (same_part around p (definition_in dialect.scope p) h.0) (same_parts (behind first.defines around) ps h.1)
+        around (same_part around p (kind_in dialect around.standing p) h.0) (same_parts (behind first.defines around) ps h.1)
 
   pub enough : (n m : ℕ) (around : Around) (f : Forest) → size f < n → size f < m
       → search_list dialect world local scope deeper n around f ≡ search_list dialect world local scope deeper m around f

@@ -14,8 +14,8 @@ decreases-search_list g l = 2 * l.env.now.depth + 1
 
 abbrev pub invariant-search_list-turns : goal.invariant-search_list-turns
 invariant-search_list-turns g l =
-    let a = searched_under (g.G.FragmentGrammar.answer l.env.grammar.now) l.env.scope.now l.env.dialect l.env.depth (around_in l.fn.standing l.outer l.initial.search.locals) l.trees in
-    Going l.env.dialect (world_under (g.G.FragmentGrammar.answer l.env.grammar.now) l.env.scope.now l.env.dialect) (scope_in l.env.scope.now) l.env.depth l.outer l.env.scope.now.edition
+    let a = searched_under (g.G.FragmentGrammar.answer l.env.grammar.now) l.env.scope.now l.env.dialect.now l.env.depth (around_in l.fn.standing l.outer l.initial.search.locals) l.trees in
+    Going l.env.dialect.now (world_under (g.G.FragmentGrammar.answer l.env.grammar.now) l.env.scope.now l.env.dialect.now) (scope_in l.env.scope.now) l.env.depth l.outer l.env.scope.now.edition
     g.S.EventSink.has_taken (a.outcome, a.defines ++ locals_of l.initial.search.locals) l.initial.search l.search l.walk
 
 abbrev pub decreases-search_list-turns : goal.decreases-search_list-turns

@@ -16,7 +16,8 @@ returns-clause-outcome g c =
 pub returns-then-quiet-clause-outcome : goal.returns-then-quiet-clause-outcome
 returns-then-quiet-clause-outcome g c =
     c.unchanged.ensures c.args.tree.now.inner
-    ∙ quiet_parts (numbered_world (world (g.G.FragmentGrammar.answer c.args.env.now.grammar.now) c.args.env.now.scope.now.edition c.args.env.now.dialect)) (scope_in c.args.env.now.scope.now) c.args.env.now.depth c.args.tree.now.inner
-    (quiet_scoped c.args.env.now.dialect (numbered_world (world (g.G.FragmentGrammar.answer c.args.env.now.grammar.now) c.args.env.now.scope.now.edition c.args.env.now.dialect)) c.args.env.now.depth c.args.tree.now.inner (scope_in c.args.env.now.scope.now)
+    ∙ quiet_parts (numbered_world (world (g.G.FragmentGrammar.answer c.args.env.now.grammar.now) c.args.env.now.scope.now.edition c.args.env.now.dialect.now)) (scope_in c.args.env.now.scope.now) c.args.env.now.depth c.args.tree.now.inner
+    (quiet_scoped c.args.env.now.dialect.now (numbered_world (world (g.G.FragmentGrammar.answer c.args.env.now.grammar.now) c.args.env.now.scope.now.edition c.args.env.now.dialect.now)) c.args.env.now.depth c.args.tree.now.inner (scope_in c.args.env.now.scope.now)
+    (c.in_ok-quiet.ensures.whole c.if-quiet.true)
     (rw c.iter.ensures at (c.in_ok-quiet.ensures.words c.if-quiet.true))
     (rw c.iter.ensures at (c.in_ok-quiet.ensures.calls c.if-quiet.true)))

@@ -16,4 +16,4 @@ returns-clause-steps g c =
     let lent : c.tree-own.result.now ≡ c.args.tree.value = search rules in
     let now = λ (l : List PlacedStep). PutsOut c.args.steps.now c.emit_events.new.steps (resolved_steps c.args.start c.args.env.now.scope.now.starts l) in
     let puts = subst now (ap (λ (p : Parts). p.steps) c.in_ok-outcome.ensures.outcome) c.in_ok-emit_events.ensures in
-    subst (λ (t : Top). now (expanded (numbered_world (world (g.G.FragmentGrammar.answer c.args.env.now.grammar.now) c.args.env.now.scope.now.edition c.args.env.now.dialect)) unnumbered (scope_in c.args.env.now.scope.now) c.args.env.now.depth t.inner).steps) lent puts
+    subst (λ (t : Top). now (expanded (numbered_world (world (g.G.FragmentGrammar.answer c.args.env.now.grammar.now) c.args.env.now.scope.now.edition c.args.env.now.dialect.now)) unnumbered (scope_in c.args.env.now.scope.now) c.args.env.now.depth t.inner).steps) lent puts

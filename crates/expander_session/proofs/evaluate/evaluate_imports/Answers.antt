@@ -19,7 +19,7 @@ returns-in_err-evaluate_import-clause-cause g c = λ e.
     let done : List Forest = import_pieces (take c.loop-import.import-index imports) in
     let rest : List Forest = import_pieces (drop (suc c.loop-import.import-index) imports) in
     subst (λ (ps : List Forest). NeedsMore c.args.context.now.memory.now (definition_trees ps)) (sym c.imports_of-import-items.ensures.pieces)
-    (imports_need (g.G.FragmentGrammar.answer c.args.context.now.grammar.now) c.args.edition c.args.context.now.dialect c.args.context.now.depth c.args.context.now.memory.now
+    (imports_need (g.G.FragmentGrammar.answer c.args.context.now.grammar.now) c.args.edition c.args.context.now.dialect.now c.args.context.now.depth c.args.context.now.memory.now
     (import_pieces imports) done (import_piece c.import-item.result) rest
     (split_at import_piece imports c.loop-import.import-index c.import-item.result c.loop-import-test.true c.import-item.is)
     (c.in_err-evaluate_import.ensures.cause (definition_trees done) c.loop-import.invariant.has.taken.numbers
@@ -32,12 +32,12 @@ loop-import-preserved g c =
     let done : List Forest = import_pieces (take c.loop-import.import-index imports) in
     let piece : Forest = import_piece c.import-item.result in
     record {
-      has = subst (λ (ps : List Forest). HasImported A c.args.edition c.args.context.now.dialect c.args.context.now.depth c.args.context.now.memory.now ps c.evaluate_import.new.now)
+      has = subst (λ (ps : List Forest). HasImported A c.args.edition c.args.context.now.dialect.now c.args.context.now.depth c.args.context.now.memory.now ps c.evaluate_import.new.now)
           (sym (mapped_more import_piece imports c.loop-import.import-index c.import-item.result c.loop-import-test.true c.import-item.is))
-          (one_more A c.args.edition c.args.context.now.dialect c.args.context.now.depth c.args.context.now.memory.now done piece c.loop-import.now c.evaluate_import.new.now
+          (one_more A c.args.edition c.args.context.now.dialect.now c.args.context.now.depth c.args.context.now.memory.now done piece c.loop-import.now c.evaluate_import.new.now
           c.loop-import.invariant.has c.in_ok-evaluate_import.ensures.grows
-          (subst (λ (e : Edition). Imports A e c.args.context.now.dialect c.args.context.now.depth c.args.context.now.memory.now piece c.loop-import.now c.evaluate_import.new.now)
-          c.loop-import.invariant.has.edition_is (c.in_ok-evaluate_import.ensures.taken A c.args.context.now.dialect c.args.context.now.depth)));
+          (subst (λ (e : Edition). Imports A e c.args.context.now.dialect.now c.args.context.now.depth c.args.context.now.memory.now piece c.loop-import.now c.evaluate_import.new.now)
+          c.loop-import.invariant.has.edition_is (c.in_ok-evaluate_import.ensures.taken A c.args.context.now.dialect.now c.args.context.now.depth)));
       links = λ h. c.in_ok-evaluate_import.ensures.links (c.loop-import.invariant.links h);
       lookup = c.in_ok-evaluate_import.ensures.lookup ∙ c.loop-import.invariant.lookup;
       expanded = c.in_ok-evaluate_import.ensures.expanded ∙ c.loop-import.invariant.expanded;

@@ -22,7 +22,7 @@ returns-then-is_definition-clause-taken g c =
     let A = g.G.FragmentGrammar.answer c.args.context.now.grammar.now in
     let tree_is : c.in_ok-clone.field-0.value ≡ own_top (relative (piece_at c.args.own.now)) = search rules in
     rw c.reserve.ensures at
-    (c.evaluate_definition.ensures.taken A c.args.context.now.dialect c.args.context.now.depth (piece_at c.args.own.now) c.requires.places c.requires.right.have
+    (c.evaluate_definition.ensures.taken A c.args.context.now.dialect.now c.args.context.now.depth (piece_at c.args.own.now) c.requires.places c.requires.right.have
     (own_first c.args.own.now.start (tree_at c.args.own.now).inner c.requires.own.start) tree_is)
 
 pub link_of-link-requires-clause-linked : goal.link_of-link-requires-clause-linked
@@ -30,7 +30,7 @@ link_of-link-requires-clause-linked g c = c.requires.right.linked
 
 pub is_definition-requires-clause-plain : goal.is_definition-requires-clause-plain
 is_definition-requires-clause-plain g c =
-    all_plain (world (g.G.FragmentGrammar.answer c.args.context.now.grammar.now) c.args.now.now.scope.edition c.args.context.now.dialect) c.args.context.now.depth (numbers_in c.args.context.now.memory.now.by_tree) c.args.context.now.memory.now.plains.items c.requires.right.right
+    all_plain (world (g.G.FragmentGrammar.answer c.args.context.now.grammar.now) c.args.now.now.scope.edition c.args.context.now.dialect.now) c.args.context.now.depth (numbers_in c.args.context.now.memory.now.by_tree) c.args.context.now.memory.now.plains.items c.requires.right.right
 
 pub evaluate_plain-requires-clause-link : goal.evaluate_plain-requires-clause-link
 evaluate_plain-requires-clause-link g c =

@@ -22,19 +22,19 @@ pub loop-own-init : goal.loop-own-init
 loop-own-init g c =
     let A = g.G.FragmentGrammar.answer c.args.context.now.grammar.now in
     record {
-      room = omega (arith, (c.in_ok-now.ensures.taken A c.args.context.now.dialect c.args.context.now.depth c.requires.right).expanded, c.in_ok-evaluate_imports.ensures.expanded);
+      room = omega (arith, (c.in_ok-now.ensures.taken A c.args.context.now.dialect.now c.args.context.now.depth c.requires.right).expanded, c.in_ok-evaluate_imports.ensures.expanded);
       lookup = subst (λ (i : MemoIndex). IndexesMemos i c.args.context.now.memory.now.plains.items) (sym c.in_ok-evaluate_imports.ensures.lookup)
           (c.in_ok-now.ensures.lookup c.args.context.now.memory.now.plains.items);
       links = c.in_ok-evaluate_imports.ensures.links c.in_ok-now.ensures.links;
-      left = left_begins A c.args.edition c.args.context.now.dialect c.args.context.now.depth c.args.context.now.memory.now c.args.context.now.prelude.now (map piece_at c.args.pieces.now)
+      left = left_begins A c.args.edition c.args.context.now.dialect.now c.args.context.now.depth c.args.context.now.memory.now c.args.context.now.prelude.now (map piece_at c.args.pieces.now)
           c.in_ok-evaluate_imports.ensures.stands (all_stand c.args.pieces.now c.requires.own) _ c.in_ok-evaluate_imports.ensures.taken;
     }
 
 pub evaluate_imports-requires-clause-none : goal.evaluate_imports-requires-clause-none
 evaluate_imports-requires-clause-none g c =
     let A = g.G.FragmentGrammar.answer c.args.context.now.grammar.now in
-    none_imported A c.args.edition c.args.context.now.dialect c.args.context.now.depth c.args.context.now.memory.now c.args.context.now.prelude.now (map piece_at c.args.pieces.now) _
-    c.in_ok-now.ensures.none c.in_ok-now.ensures.read c.in_ok-now.ensures.edition (c.in_ok-now.ensures.taken A c.args.context.now.dialect c.args.context.now.depth c.requires.right)
+    none_imported A c.args.edition c.args.context.now.dialect.now c.args.context.now.depth c.args.context.now.memory.now c.args.context.now.prelude.now (map piece_at c.args.pieces.now) _
+    c.in_ok-now.ensures.none c.in_ok-now.ensures.read c.in_ok-now.ensures.edition (c.in_ok-now.ensures.taken A c.args.context.now.dialect.now c.args.context.now.depth c.requires.right)
 
 pub returns-in_err-evaluate_imports-clause-tokens : goal.returns-in_err-evaluate_imports-clause-tokens
 returns-in_err-evaluate_imports-clause-tokens g c = λ e.
@@ -48,11 +48,11 @@ returns-in_err-evaluate_imports-clause-numbers g c = λ e.
 pub evaluate_piece-requires-clause-right : goal.evaluate_piece-requires-clause-right
 evaluate_piece-requires-clause-right g c =
     let A = g.G.FragmentGrammar.answer c.args.context.now.grammar.now in
-    subst (λ (e : Edition). IsCache (world A e c.args.context.now.dialect) c.args.context.now.depth e c.args.context.now.memory.now) (sym c.loop-own.invariant.left.has.edition_is) c.requires.right
+    subst (λ (e : Edition). IsCache (world A e c.args.context.now.dialect.now) c.args.context.now.depth e c.args.context.now.memory.now) (sym c.loop-own.invariant.left.has.edition_is) c.requires.right
 
 pub evaluate_piece-requires-clause-can : goal.evaluate_piece-requires-clause-can
 evaluate_piece-requires-clause-can g c =
-    can_define (g.G.FragmentGrammar.answer c.args.context.now.grammar.now) c.args.edition c.args.context.now.dialect c.args.context.now.depth c.args.context.now.memory.now c.args.context.now.prelude.now (map piece_at c.args.pieces.now) _ c.loop-own.now c.requires.right c.loop-own.invariant.left
+    can_define (g.G.FragmentGrammar.answer c.args.context.now.grammar.now) c.args.edition c.args.context.now.dialect.now c.args.context.now.depth c.args.context.now.memory.now c.args.context.now.prelude.now (map piece_at c.args.pieces.now) _ c.loop-own.now c.requires.right c.loop-own.invariant.left
 
 pub evaluate_piece-requires-clause-places : goal.evaluate_piece-requires-clause-places
 evaluate_piece-requires-clause-places g c =
@@ -62,7 +62,7 @@ evaluate_piece-requires-clause-places g c =
       fits = c.fit_at_other_places.ensures.rules;
       bursts = c.bursts_at_other_places.ensures.rules;
     } in
-    world_at_other_places laws (g.G.FragmentGrammar.answer c.args.context.now.grammar.now) c.loop-own.now.scope.edition c.args.context.now.dialect
+    world_at_other_places laws (g.G.FragmentGrammar.answer c.args.context.now.grammar.now) c.loop-own.now.scope.edition c.args.context.now.dialect.now
 
 pub evaluate_piece-requires-clause-room : goal.evaluate_piece-requires-clause-room
 evaluate_piece-requires-clause-room g c =
@@ -93,17 +93,17 @@ loop-own-preserved g c =
     } in
     let next = next_own c.args.pieces.now c.loop-own.own-index c.own-item.result c.loop-own-test.true c.own-item.is in
     let one = left_length c.args.pieces.now c.loop-own.own-index c.own-item.result c.loop-own-test.true in
-    let left : Left A c.args.edition c.args.context.now.dialect c.args.context.now.depth c.args.context.now.memory.now c.args.context.now.prelude.now (map piece_at c.args.pieces.now) _ c.loop-own.now = rw next at c.loop-own.invariant.left in
+    let left : Left A c.args.edition c.args.context.now.dialect.now c.args.context.now.depth c.args.context.now.memory.now c.args.context.now.prelude.now (map piece_at c.args.pieces.now) _ c.loop-own.now = rw next at c.loop-own.invariant.left in
     record {
       room = omega (arith, c.in_ok-evaluate_piece.ensures.expanded, c.loop-own.invariant.room, one);
       lookup = c.in_ok-evaluate_piece.ensures.lookup;
       links = subst (AreLinks c.evaluate_piece.new.now.taken)
           (sym (mapped_more tree_at c.args.pieces.now c.loop-own.own-index c.own-item.result c.loop-own-test.true c.own-item.is))
           (c.in_ok-evaluate_piece.ensures.links (map tree_at (take c.loop-own.own-index c.args.pieces.now)) c.loop-own.invariant.links);
-      left = left_more A c.args.edition c.args.context.now.dialect c.args.context.now.depth c.args.context.now.memory.now c.args.context.now.prelude.now (map piece_at c.args.pieces.now) (piece_at c.own-item.result)
+      left = left_more A c.args.edition c.args.context.now.dialect.now c.args.context.now.depth c.args.context.now.memory.now c.args.context.now.prelude.now (map piece_at c.args.pieces.now) (piece_at c.own-item.result)
           (map piece_at (drop (c.loop-own.own-index + 1) c.args.pieces.now)) c.loop-own.now left
-          c.equal_pieces.ensures (world_at_other_places laws A c.args.edition c.args.context.now.dialect) c.evaluate_piece.new.now c.in_ok-evaluate_piece.ensures.grows
-          (subst (λ (e : Edition). Evaluates A e c.args.context.now.dialect c.args.context.now.depth c.args.context.now.memory.now (piece_at c.own-item.result) c.loop-own.now c.evaluate_piece.new.now) left.has.edition_is c.in_ok-evaluate_piece.ensures.taken);
+          c.equal_pieces.ensures (world_at_other_places laws A c.args.edition c.args.context.now.dialect.now) c.evaluate_piece.new.now c.in_ok-evaluate_piece.ensures.grows
+          (subst (λ (e : Edition). Evaluates A e c.args.context.now.dialect.now c.args.context.now.depth c.args.context.now.memory.now (piece_at c.own-item.result) c.loop-own.now c.evaluate_piece.new.now) left.has.edition_is c.in_ok-evaluate_piece.ensures.taken);
     }
 
 pub returns-in_err-evaluate_piece-clause-tokens : goal.returns-in_err-evaluate_piece-clause-tokens
@@ -116,19 +116,19 @@ returns-in_err-evaluate_piece-clause-tokens g c = λ e.
       bursts = c.bursts_at_other_places.ensures.rules;
     } in
     let next = next_own c.args.pieces.now c.loop-own.own-index c.own-item.result c.loop-own-test.true c.own-item.is in
-    let left : Left A c.args.edition c.args.context.now.dialect c.args.context.now.depth c.args.context.now.memory.now c.args.context.now.prelude.now (map piece_at c.args.pieces.now) _ c.loop-own.now = rw next at c.loop-own.invariant.left in
-    left_bursts A c.args.edition c.args.context.now.dialect c.args.context.now.depth c.args.context.now.memory.now c.args.context.now.prelude.now (map piece_at c.args.pieces.now) (piece_at c.own-item.result)
+    let left : Left A c.args.edition c.args.context.now.dialect.now c.args.context.now.depth c.args.context.now.memory.now c.args.context.now.prelude.now (map piece_at c.args.pieces.now) _ c.loop-own.now = rw next at c.loop-own.invariant.left in
+    left_bursts A c.args.edition c.args.context.now.dialect.now c.args.context.now.depth c.args.context.now.memory.now c.args.context.now.prelude.now (map piece_at c.args.pieces.now) (piece_at c.own-item.result)
     (map piece_at (drop (c.loop-own.own-index + 1) c.args.pieces.now)) c.loop-own.now left
-    c.equal_pieces.ensures (world_at_other_places laws A c.args.edition c.args.context.now.dialect)
-    (subst (λ (e : Edition). MakesTooMany A e c.args.context.now.dialect c.args.context.now.depth (piece_at c.own-item.result) c.loop-own.now) left.has.edition_is
+    c.equal_pieces.ensures (world_at_other_places laws A c.args.edition c.args.context.now.dialect.now)
+    (subst (λ (e : Edition). MakesTooMany A e c.args.context.now.dialect.now c.args.context.now.depth (piece_at c.own-item.result) c.loop-own.now) left.has.edition_is
     (c.in_err-evaluate_piece.ensures.tokens (handed c.from_residual-in_err-evaluate_piece.result _ c.from_residual-in_err-evaluate_piece.ensures.1 e)))
 
 pub returns-in_err-evaluate_piece-clause-numbers : goal.returns-in_err-evaluate_piece-clause-numbers
 returns-in_err-evaluate_piece-clause-numbers g c = λ e.
     let A = g.G.FragmentGrammar.answer c.args.context.now.grammar.now in
     let next = next_own c.args.pieces.now c.loop-own.own-index c.own-item.result c.loop-own-test.true c.own-item.is in
-    let left : Left A c.args.edition c.args.context.now.dialect c.args.context.now.depth c.args.context.now.memory.now c.args.context.now.prelude.now (map piece_at c.args.pieces.now) _ c.loop-own.now = rw next at c.loop-own.invariant.left in
-    left_needs A c.args.edition c.args.context.now.dialect c.args.context.now.depth c.args.context.now.memory.now c.args.context.now.prelude.now (map piece_at c.args.pieces.now) (piece_at c.own-item.result)
+    let left : Left A c.args.edition c.args.context.now.dialect.now c.args.context.now.depth c.args.context.now.memory.now c.args.context.now.prelude.now (map piece_at c.args.pieces.now) _ c.loop-own.now = rw next at c.loop-own.invariant.left in
+    left_needs A c.args.edition c.args.context.now.dialect.now c.args.context.now.depth c.args.context.now.memory.now c.args.context.now.prelude.now (map piece_at c.args.pieces.now) (piece_at c.own-item.result)
     (map piece_at (drop (c.loop-own.own-index + 1) c.args.pieces.now)) c.loop-own.now left
     (c.in_err-evaluate_piece.ensures.cause left.trees left.has.taken.numbers (handed c.from_residual-in_err-evaluate_piece.result _ c.from_residual-in_err-evaluate_piece.ensures.1 e))
 
@@ -136,7 +136,7 @@ pub returns-clause-taken : goal.returns-clause-taken
 returns-clause-taken g c =
     let A = g.G.FragmentGrammar.answer c.args.context.now.grammar.now in
     let none = no_own c.args.pieces.now c.loop-own.own-index c.loop-own-test.false in
-    left_done A c.args.edition c.args.context.now.dialect c.args.context.now.depth c.args.context.now.memory.now c.args.context.now.prelude.now (map piece_at c.args.pieces.now) c.loop-own.now (rw none at c.loop-own.invariant.left)
+    left_done A c.args.edition c.args.context.now.dialect.now c.args.context.now.depth c.args.context.now.memory.now c.args.context.now.prelude.now (map piece_at c.args.pieces.now) c.loop-own.now (rw none at c.loop-own.invariant.left)
 
 pub returns-clause-links : goal.returns-clause-links
 returns-clause-links g c =

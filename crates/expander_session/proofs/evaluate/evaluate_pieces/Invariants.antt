@@ -10,5 +10,5 @@ invariant-loop-own g l = record {
   room : l.now.taken.expanded + length (drop l.own-index l.pieces) ≤ l.most;
   lookup : IndexesMemos l.now.lookup l.context.memory.now.plains.items;
   links : AreLinks l.now.taken (map tree_at (take l.own-index l.pieces));
-  left : Left (g.G.FragmentGrammar.answer l.context.grammar.now) l.fn.edition l.context.dialect l.context.depth l.context.memory.now l.context.prelude.now (map piece_at l.pieces) (map piece_at (drop l.own-index l.pieces)) l.now;
+  left : Left (g.G.FragmentGrammar.answer l.context.grammar.now) l.fn.edition l.context.dialect.now l.context.depth l.context.memory.now l.context.prelude.now (map piece_at l.pieces) (map piece_at (drop l.own-index l.pieces)) l.now;
 }

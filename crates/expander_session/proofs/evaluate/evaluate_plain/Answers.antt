@@ -35,13 +35,13 @@ returns-clause-taken g c = λ piece start_is tree_is before trees done has.
     let r : Forest = relative piece in
     let is : tree_of (rc_value q) ≡ c.args.tree.now.value = c.in_ok-plain.ensures.tree ∙ c.in_ok-found.ensures.tree in
     let top : tree_of p ≡ own_top r = c.in_ok-found.ensures.tree ∙ tree_is in
-    let found : Holds p (parts_of (expanded_under A c.args.now.now.scope c.args.context.now.dialect c.args.context.now.depth r)) =
-    parts_taken A ed c.args.context.now.dialect c.args.context.now.depth c.args.context.now.memory.now piece c.args.now.now c.count.new.now c.args.tree.now.value p tree_is c.in_ok-found.ensures.holds before trees done has in
-    let puts : PutsOut c.args.now.now.taken.steps c.emit_plain.new.steps (resolved_steps c.args.start c.args.now.now.scope.starts (expanded_under A c.args.now.now.scope c.args.context.now.dialect c.args.context.now.depth r).steps) =
-    for_tree A c.args.now.now.scope c.args.context.now.dialect c.args.context.now.depth r p
-    (λ (f : Forest). PutsOut c.args.now.now.taken.steps c.emit_plain.new.steps (resolved_steps c.args.start c.args.now.now.scope.starts (expanded_under A c.args.now.now.scope c.args.context.now.dialect c.args.context.now.depth f).steps))
+    let found : Holds p (parts_of (expanded_under A c.args.now.now.scope c.args.context.now.dialect.now c.args.context.now.depth r)) =
+    parts_taken A ed c.args.context.now.dialect.now c.args.context.now.depth c.args.context.now.memory.now piece c.args.now.now c.count.new.now c.args.tree.now.value p tree_is c.in_ok-found.ensures.holds before trees done has in
+    let puts : PutsOut c.args.now.now.taken.steps c.emit_plain.new.steps (resolved_steps c.args.start c.args.now.now.scope.starts (expanded_under A c.args.now.now.scope c.args.context.now.dialect.now c.args.context.now.depth r).steps) =
+    for_tree A c.args.now.now.scope c.args.context.now.dialect.now c.args.context.now.depth r p
+    (λ (f : Forest). PutsOut c.args.now.now.taken.steps c.emit_plain.new.steps (resolved_steps c.args.start c.args.now.now.scope.starts (expanded_under A c.args.now.now.scope c.args.context.now.dialect.now c.args.context.now.depth f).steps))
     top found c.in_ok-plain.ensures.steps in
-    one_plain_piece A ed c.args.context.now.dialect c.args.context.now.depth c.args.context.now.memory.now piece c.args.now.now c.count.new.now c.equal_pieces.ensures q (is_some c.in_ok-found.at)
+    one_plain_piece A ed c.args.context.now.dialect.now c.args.context.now.depth c.args.context.now.memory.now piece c.args.now.now c.count.new.now c.equal_pieces.ensures q (is_some c.in_ok-found.at)
     c.count.ensures.scope
     (ap (λ (t : Evaluated). t.numbers) c.count.ensures.taken)
     (is ∙ tree_is)
@@ -49,16 +49,16 @@ returns-clause-taken g c = λ piece start_is tree_is before trees done has.
     (ap (λ (t : Evaluated). t.hashes.items) c.count.ensures.taken ∙ c.in_ok-hold.ensures.hashes
     ∙ ap (λ (n : ℕ). c.args.now.now.taken.hashes.items ++ n ∷ []) (c.in_ok-found.ensures.hash ∙ ap tree_hash (sym is)))
     (λ holds.
-    subst (λ (t : Evaluated). PutsOut c.args.now.now.taken.steps t.steps (resolved_steps (first_start piece) c.args.now.now.scope.starts (expanded_under A c.args.now.now.scope c.args.context.now.dialect c.args.context.now.depth r).steps))
+    subst (λ (t : Evaluated). PutsOut c.args.now.now.taken.steps t.steps (resolved_steps (first_start piece) c.args.now.now.scope.starts (expanded_under A c.args.now.now.scope c.args.context.now.dialect.now c.args.context.now.depth r).steps))
     (sym c.count.ensures.taken)
-    (subst (λ n. PutsOut c.args.now.now.taken.steps c.emit_plain.new.steps (resolved_steps n c.args.now.now.scope.starts (expanded_under A c.args.now.now.scope c.args.context.now.dialect c.args.context.now.depth r).steps)) start_is puts))
+    (subst (λ n. PutsOut c.args.now.now.taken.steps c.emit_plain.new.steps (resolved_steps n c.args.now.now.scope.starts (expanded_under A c.args.now.now.scope c.args.context.now.dialect.now c.args.context.now.depth r).steps)) start_is puts))
     (ap (λ (t : Evaluated). t.faults.items) c.count.ensures.taken ∙ c.in_ok-plain.ensures.faults
     ∙ ap (λ n. c.args.now.now.taken.faults.items ++ resolved_faults n c.args.now.now.scope.starts (rc_value q).faults.items) start_is)
     (c.in_ok-found.ensures.counted
-    ∙ ap (λ (t : Top). list_any (matches (scope_in c.args.now.now.scope) t.inner) (map (λ q. piece_of (world A ed c.args.context.now.dialect) c.args.context.now.depth (rc_value q)) c.args.context.now.memory.now.plains.items)) tree_is)
+    ∙ ap (λ (t : Top). list_any (matches (scope_in c.args.now.now.scope) t.inner) (map (λ q. piece_of (world A ed c.args.context.now.dialect.now) c.args.context.now.depth (rc_value q)) c.args.context.now.memory.now.plains.items)) tree_is)
     (ap (λ (t : Evaluated). t.expanded) c.count.ensures.taken)
     before trees done has
-    (for_tree A c.args.now.now.scope c.args.context.now.dialect c.args.context.now.depth r p (λ (f : Forest). Holds (rc_value q) (parts_of (expanded_under A c.args.now.now.scope c.args.context.now.dialect c.args.context.now.depth f)))
+    (for_tree A c.args.now.now.scope c.args.context.now.dialect.now c.args.context.now.depth r p (λ (f : Forest). Holds (rc_value q) (parts_of (expanded_under A c.args.now.now.scope c.args.context.now.dialect.now c.args.context.now.depth f)))
     top found c.in_ok-plain.ensures.holds)
     (ap (λ (t : Top). is_some (definition_of t.inner)) (sym tree_is) ∙ c.requires.plain)
 

@@ -29,9 +29,9 @@ returns-in_ok-plain-in-Some-clause-holds g c = λ given numbers before are more 
     (rw c.in-Some.is at c.in_ok-found.ensures.found) in
     let same : c.in_ok-plain-in-Some.plain.value ≡ rc_value q = search rules in
     subst (λ (p : Memo). Holds p
-    (parts_of (expanded (numbered_world (world (g.G.FragmentGrammar.answer c.args.env.now.grammar.now) c.args.env.now.scope.now.edition c.args.env.now.dialect)) unnumbered (scope_in c.args.env.now.scope.now) c.args.env.now.depth c.args.tree.now.value.inner)))
+    (parts_of (expanded (numbered_world (world (g.G.FragmentGrammar.answer c.args.env.now.grammar.now) c.args.env.now.scope.now.edition c.args.env.now.dialect.now)) unnumbered (scope_in c.args.env.now.scope.now) c.args.env.now.depth c.args.tree.now.value.inner)))
     (sym same)
-    (found_parts (world (g.G.FragmentGrammar.answer c.args.env.now.grammar.now) c.args.env.now.scope.now.edition c.args.env.now.dialect) c.args.env.now.depth (numbers_in c.args.memory.now.by_tree) c.equal_pieces.ensures c.equal_trees.ensures
+    (found_parts (world (g.G.FragmentGrammar.answer c.args.env.now.grammar.now) c.args.env.now.scope.now.edition c.args.env.now.dialect.now) c.args.env.now.depth (numbers_in c.args.memory.now.by_tree) c.equal_pieces.ensures c.equal_trees.ensures
     given numbers are more (scope_in c.args.env.now.scope.now) before scope_is met c.args.tree.now.value c.requires.top c.args.memory.now.plains.items c.requires.right.right c.in-Some.i q here found)
 
 pub returns-in_ok-plain-in-None-clause-holds : goal.returns-in_ok-plain-in-None-clause-holds
@@ -41,14 +41,14 @@ pub returns-in_ok-plain-in-Some-clause-counted : goal.returns-in_ok-plain-in-Som
 returns-in_ok-plain-in-Some-clause-counted g c =
     ap is_some (sym c.in-Some.is) ∙ c.in_ok-found.ensures.any
     ∙ ap (λ (qs : List (Rc Memo Global)). list_any (λ q. is_match (scope_in c.args.env.now.scope.now) c.args.tree.now.value (rc_value q)) qs) c.as_slice-held.ensures.value
-    ∙ any_is (world (g.G.FragmentGrammar.answer c.args.env.now.grammar.now) c.args.env.now.scope.now.edition c.args.env.now.dialect) c.args.env.now.depth (numbers_in c.args.memory.now.by_tree) (scope_in c.args.env.now.scope.now)
+    ∙ any_is (world (g.G.FragmentGrammar.answer c.args.env.now.grammar.now) c.args.env.now.scope.now.edition c.args.env.now.dialect.now) c.args.env.now.depth (numbers_in c.args.memory.now.by_tree) (scope_in c.args.env.now.scope.now)
     c.args.tree.now.value c.args.memory.now.plains.items c.requires.top c.requires.right.right
 
 pub returns-in_ok-plain-in-None-clause-counted : goal.returns-in_ok-plain-in-None-clause-counted
 returns-in_ok-plain-in-None-clause-counted g c =
     ap is_some (sym c.in-None.is) ∙ c.in_ok-found.ensures.any
     ∙ ap (λ (qs : List (Rc Memo Global)). list_any (λ q. is_match (scope_in c.args.env.now.scope.now) c.args.tree.now.value (rc_value q)) qs) c.as_slice-held.ensures.value
-    ∙ any_is (world (g.G.FragmentGrammar.answer c.args.env.now.grammar.now) c.args.env.now.scope.now.edition c.args.env.now.dialect) c.args.env.now.depth (numbers_in c.args.memory.now.by_tree) (scope_in c.args.env.now.scope.now)
+    ∙ any_is (world (g.G.FragmentGrammar.answer c.args.env.now.grammar.now) c.args.env.now.scope.now.edition c.args.env.now.dialect.now) c.args.env.now.depth (numbers_in c.args.memory.now.by_tree) (scope_in c.args.env.now.scope.now)
     c.args.tree.now.value c.args.memory.now.plains.items c.requires.top c.requires.right.right
 
 pub find_valid-requires-clause-table : goal.find_valid-requires-clause-table

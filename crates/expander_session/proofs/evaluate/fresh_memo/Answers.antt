@@ -26,9 +26,9 @@ returns-in_ok-plain-in-Some-clause-holds g c = λ given numbers before are right
     (rw c.in-Some.is at c.find_in_text.ensures.found) in
     let same : c.in_ok-plain-in-Some.plain.value ≡ rc_value q = search rules in
     subst (λ (p : Memo). Holds p
-    (parts_of (expanded (numbered_world (world (g.G.FragmentGrammar.answer c.args.env.now.grammar.now) c.args.env.now.scope.now.edition c.args.env.now.dialect)) unnumbered (scope_in c.args.env.now.scope.now) c.args.env.now.depth c.args.tree.now.value.inner)))
+    (parts_of (expanded (numbered_world (world (g.G.FragmentGrammar.answer c.args.env.now.grammar.now) c.args.env.now.scope.now.edition c.args.env.now.dialect.now)) unnumbered (scope_in c.args.env.now.scope.now) c.args.env.now.depth c.args.tree.now.value.inner)))
     (sym same)
-    (found_parts (world (g.G.FragmentGrammar.answer c.args.env.now.grammar.now) c.args.env.now.scope.now.edition c.args.env.now.dialect) c.args.env.now.depth numbers c.equal_pieces.ensures c.equal_trees.ensures
+    (found_parts (world (g.G.FragmentGrammar.answer c.args.env.now.grammar.now) c.args.env.now.scope.now.edition c.args.env.now.dialect.now) c.args.env.now.depth numbers c.equal_pieces.ensures c.equal_trees.ensures
     given numbers are (λ t n e. e) (scope_in c.args.env.now.scope.now) before scope_is met c.args.tree.now.value c.requires.top c.args.taken.now.plains.items rights c.in-Some.i q here found)
 
 pub returns-in_ok-plain-in-Some-clause-tree : goal.returns-in_ok-plain-in-Some-clause-tree
