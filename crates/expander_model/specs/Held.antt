@@ -12,8 +12,8 @@ use Rattle.expander_model.specs.Expansion.{World, Outcome}
 use Rattle.expander_model.specs.Meaning.{Member, plain, defining}
 use Rattle.expander_model.specs.OtherPlaces.{definition_with}
 use Rattle.expander_model.specs.Pieces.{first_start, relative}
-use Rattle.expander_model.specs.Scoping.{expanded}
-use Rattle.small_grammar.specs.Text.{same_text}
+use Rattle.expander_model.specs.Scoping.{expanded, is_found}
+use Rattle.expander_model.specs.declared.dialect.Dialect.{Dialect}
 
 -- every span in a forest has this property
 abbrev pub AllSpans : (Span → Type 0) → Forest → Type 0
@@ -92,16 +92,17 @@ numbered_world world = record {
 }
 
 -- what a name resolves to among the definitions before, which are given nearest first
-abbrev pub nearest_met : List Met → List ℕ → Option Met
-nearest_met before name = find (λ (m : Met). same_text m.numbered.definition.name.sym name) before
+abbrev pub nearest_met : Dialect → List Met → List ℕ → Option Met
+nearest_met dialect before name =
+    find (λ (m : Met). is_found dialect m.numbered.definition name) before
 
 -- a definition with its id, without its place
 abbrev pub numbered_of : Met → Numbered
 numbered_of m = m.numbered
 
 -- the scope of these definitions, with their ids
-abbrev pub numbered_scope : List Met → List ℕ → Option Numbered
-numbered_scope before name = option_map numbered_of (nearest_met before name)
+abbrev pub numbered_scope : Dialect → List Met → List ℕ → Option Numbered
+numbered_scope dialect before name = option_map numbered_of (nearest_met dialect before name)
 
 -- where the nearest definition of an id starts
 abbrev pub place_of : List Met → ℕ → Place
@@ -158,7 +159,7 @@ module _ (world : World Definition) (depth : ℕ) (number_of : Forest → ℕ) w
   kept_of before piece (Some d) = met (met_of piece d)
   kept_of before piece None =
       kept (first_start piece) before (relative piece)
-      (expanded (numbered_world world) unnumbered (numbered_scope before) depth (relative piece))
+      (expanded (numbered_world world) unnumbered (numbered_scope world.dialect before) depth (relative piece))
 
   -- the pieces in order, each in the scope of the definitions before it, given nearest first
   abbrev pub kept_after : List Met → List Forest → List Kept

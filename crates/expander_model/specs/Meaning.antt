@@ -7,9 +7,10 @@ use Rattle.expander_model.specs.declared.fault.Fault.{Fault}
 use Rattle.expander_model.specs.declared.fault.FaultKind.TheVariants.{BrokenDefinition}
 use Rattle.bridge.specs.declared.reading.outcome.ReadFault.{ReadFault}
 use Rattle.expander_model.specs.Pieces.{pieces}
-use Rattle.expander_model.specs.Definitions.{Definition, definition_of, nearest}
+use Rattle.expander_model.specs.Definitions.{Definition, definition_of}
 use Rattle.expander_model.specs.Expansion.{World, Outcome, PlacedStep}
-use Rattle.expander_model.specs.Scoping.{expanded}
+use Rattle.expander_model.specs.Scoping.{expanded, found_in, is_out}
+use Rattle.expander_model.specs.declared.scope_rules.Standing.TheVariants.{Top}
 use Rattle.expander_model.specs.Printing.{PrintedToken, visible, printed, left_out, text_of}
 use Rattle.expander_model.specs.Faults.{fault_at, nested, unspellable, in_order}
 
@@ -51,11 +52,12 @@ abbrev pub output : List Member → List PlacedStep
 output ms = visible (flat_map output_of ms)
 
 module _ (layers : Layers) where
-  -- the faults of a piece's expansion, or that of an invalid definition
+  -- the faults of a piece's expansion, or that of an invalid definition that is not left out
   abbrev pub member_faults : Member → List Fault
   member_faults (plain piece outcome) = map (λ f. fault_at f.0 f.1) outcome.faults
-  member_faults (defining d) = if layers.world.broken d
-      then fault_at BrokenDefinition d.name.span ∷ [] else []
+  member_faults (defining d) =
+      if is_out layers.world.dialect.cfg Top d.piece then []
+      else if layers.world.broken d then fault_at BrokenDefinition d.name.span ∷ [] else []
 
   -- the tokens that are printed
   abbrev pub tokens_of : List Member → List PrintedToken
@@ -75,7 +77,7 @@ module _ (layers : Layers) (depth : ℕ) where
   abbrev pub member : List Definition → Forest → Option Definition → Member
   member before piece (Some d) = defining d
   member before piece None =
-      plain piece (expanded layers.world (λ d. d) (nearest before) depth piece)
+      plain piece (expanded layers.world (λ d. d) (found_in layers.world.dialect before) depth piece)
 
   abbrev pub members_after : List Definition → List Forest → List Member
   members_after before [] = []

@@ -1,6 +1,6 @@
 -- Rust's textual scope, as tokens show it: definitions in lists of trees, and those that calls
 -- make. (The Rust Reference, "Macros By Example", "Scoping, exporting, and importing".)
-use Rattle.std.specs.Prelude.{ℕ, zero, suc, Bool, true, false, ◌&&◌, not, List, [], ◌∷◌, ◌++◌, Option, Some, None, is_some, option_map, unwrap_or, if◌then◌else◌}
+use Rattle.std.specs.Prelude.{ℕ, zero, suc, Bool, true, false, ◌&&◌, not, List, [], ◌∷◌, ◌++◌, Option, Some, None, is_some, option_map, unwrap_or, find, if◌then◌else◌}
 use Rattle.tt_data.specs.Forest.{Forest, size}
 use Rattle.tt_data.specs.Walk.{Step, at_leaf, walk}
 use Rattle.tt_data.specs.declared.delimiter.Delimiter.{Delimiter}
@@ -8,6 +8,7 @@ use Rattle.tt_data.specs.declared.leaf.Ident.{Ident}
 use Rattle.tt_data.specs.declared.leaf.Punct.{Punct}
 use Rattle.tt_data.specs.declared.span.Span.{Span}
 use Rattle.bridge.specs.Text.{is_visible, same_kind}
+use Rattle.small_grammar.specs.Text.{same_text}
 use Rattle.tt_data.specs.declared.delimiter.DelimiterKind.{DelimiterKind}
 use Rattle.tt_data.specs.declared.delimiter.DelimiterKind.TheVariants.{Brace}
 use Rattle.tt_data.specs.declared.leaf.Leaf.{Leaf}
@@ -85,6 +86,15 @@ is_out None standing piece = false
 is_out (Some options) Argument piece = false
 is_out (Some options) standing piece =
     is_configured_out (options_of options) string_text (is_items standing) piece
+
+-- a definition of a text has this name, and is not left out
+abbrev pub is_found : Dialect → Definition → List ℕ → Bool
+is_found dialect d name =
+    if is_out dialect.cfg Top d.piece then false else same_text d.name.sym name
+
+-- what a name finds among the definitions before, given nearest first
+abbrev pub found_in : Dialect → List Definition → List ℕ → Option Definition
+found_in dialect before name = find (λ (d : Definition). is_found dialect d name) before
 
 -- what a piece of a list is
 abbrev pub kind_in : Dialect → Standing → Forest → PieceKind

@@ -7,16 +7,16 @@ use Rattle.bridge.specs.RelativeSpans.{moved_to}
 use Rattle.tt_data.specs.Forest.{Forest, map_spans}
 use Rattle.tt_data.specs.declared.span.Span.{Span}
 use Rattle.expander_model.specs.Changes.{outcome_with, Changes, ScopeChange}
-use Rattle.expander_model.specs.Definitions.{Definition, definition_of, nearest}
+use Rattle.expander_model.specs.Definitions.{Definition, definition_of}
 use Rattle.expander_model.specs.Expansion.{World, Outcome}
 use Rattle.expander_model.specs.Held.{Numbered, Met, Stands, anchored, anchored_definition, first_place, mets_after, numbered_world, nearest_met, numbered_of, numbered_scope, place_of, resolve, present_definition, resolve_definition, present, unnumbered, met_of, with_met, kept_of, kept_after, Tells, IsNumbered, IsMet, HasNumber, StandFromFirst}
 use Rattle.expander_model.specs.Meaning.{Layers, Member, plain, defining, definitions_after, member, with_definition, members_after}
 use Rattle.expander_model.specs.OtherPlaces.{LooksAtNoPlace, definition_with}
 use Rattle.expander_model.specs.Pieces.{first_start, relative}
-use Rattle.expander_model.specs.Scoping.{Scoped, expanded, without_locals}
+use Rattle.expander_model.specs.Scoping.{Scoped, expanded, found_in, is_found, without_locals}
+use Rattle.expander_model.specs.declared.dialect.Dialect.{Dialect}
 use Rattle.expander_model.specs.declared.scope_rules.Standing.TheVariants.{Top}
-use Rattle.small_grammar.specs.Text.{same_text}
-use Rattle.textual_scope.proofs.ChangeLemmas.{scoped-with}
+use Rattle.textual_scope.proofs.ChangeLemmas.{is_found-with, scoped-with}
 use Rattle.expander_model.proofs.DefinitionPlaceLemmas.{definition_with-same, definition_with-with, definition_of-with}
 use Rattle.expander_model.proofs.PlaceLemmas.{own_stands, piece_and_back, resolved_piece}
 
@@ -34,74 +34,78 @@ same_definition table tells m k h g e =
     some_is _ _ (sym h.definition ∙ ap definition_of trees ∙ g.definition)
 
 -- what is found has the name, and was met
-pub record IsFound (P : Met → Type 0) (name : List ℕ) (m : Met) : Type 0 where
-  pub named : same_text m.numbered.definition.name.sym name ≡ true
+pub record IsFound (dialect : Dialect) (P : Met → Type 0) (name : List ℕ) (m : Met) : Type 0 where
+  pub named : is_found dialect m.numbered.definition name ≡ true
   pub is_so : P m
 
-pub found_is : (P : Met → Type 0) (before : List Met) (name : List ℕ) (m : Met) → All P before → nearest_met before name ≡ Some m → IsFound P name m
-found_is P [] name m h e = cc
-found_is P (k ∷ before) name m h e = go (found_is P before name m (All-tail P k before h)) (same_text k.numbered.definition.name.sym name) refl e
+pub found_is : (dialect : Dialect) (P : Met → Type 0) (before : List Met) (name : List ℕ) (m : Met) → All P before → nearest_met dialect before name ≡ Some m → IsFound dialect P name m
+found_is dialect P [] name m h e = cc
+found_is dialect P (k ∷ before) name m h e = go (found_is dialect P before name m (All-tail P k before h)) (is_found dialect k.numbered.definition name) refl e
   where
-    go : (nearest_met before name ≡ Some m → IsFound P name m) → (t : Bool) → same_text k.numbered.definition.name.sym name ≡ t
-        → cond t (Some k) (nearest_met before name) ≡ Some m → IsFound P name m
+    go : (nearest_met dialect before name ≡ Some m → IsFound dialect P name m) → (t : Bool) → is_found dialect k.numbered.definition name ≡ t
+        → cond t (Some k) (nearest_met dialect before name) ≡ Some m → IsFound dialect P name m
     go later true named e =
         let same : k ≡ m = some_is k m e in
-        record { named = ap (λ (x : Met). same_text x.numbered.definition.name.sym name) (sym same) ∙ named; is_so = subst P same (All-head P k before h) }
+        record { named = ap (λ (x : Met). is_found dialect x.numbered.definition name) (sym same) ∙ named; is_so = subst P same (All-head P k before h) }
     go later false named e = later e
 
 -- the nearest definition of a name is the nearest of its number
-place_found : (table : Forest → ℕ → Type 0) → Tells table → (before : List Met) (name : List ℕ) (m : Met)
-    → All (IsMet table) before → nearest_met before name ≡ Some m → place_of before m.numbered.number ≡ m.place
-place_found table tells [] name m h e = cc
-place_found table tells (k ∷ before) name m h e =
-    go (place_found table tells before name m (All-tail (IsMet table) k before h)) (same_text k.numbered.definition.name.sym name) refl e
+place_found : (dialect : Dialect) (table : Forest → ℕ → Type 0) → Tells table → (before : List Met) (name : List ℕ) (m : Met)
+    → All (IsMet table) before → nearest_met dialect before name ≡ Some m → place_of before m.numbered.number ≡ m.place
+place_found dialect table tells [] name m h e = cc
+place_found dialect table tells (k ∷ before) name m h e =
+    go (place_found dialect table tells before name m (All-tail (IsMet table) k before h)) (is_found dialect k.numbered.definition name) refl e
   where
-    apart : (nearest_met before name ≡ Some m → place_of before m.numbered.number ≡ m.place) → same_text k.numbered.definition.name.sym name ≡ false → nearest_met before name ≡ Some m
+    apart : (nearest_met dialect before name ≡ Some m → place_of before m.numbered.number ≡ m.place) → is_found dialect k.numbered.definition name ≡ false → nearest_met dialect before name ≡ Some m
         → (b : Bool) → nat_eq k.numbered.number m.numbered.number ≡ b → cond b k.place (place_of before m.numbered.number) ≡ m.place
     apart rest named e true equal =
-        let found : IsFound (IsMet table) name m = found_is (IsMet table) before name m (All-tail (IsMet table) k before h) e in
+        let found : IsFound dialect (IsMet table) name m = found_is dialect (IsMet table) before name m (All-tail (IsMet table) k before h) e in
         let definitions : k.numbered.definition ≡ m.numbered.definition = same_definition table tells k.numbered m.numbered (All-head (IsMet table) k before h) found.is_so ((Decides-eqb _ _).0 equal) in
-        let both : false ≡ true = sym named ∙ ap (λ (d : Definition). same_text d.name.sym name) definitions ∙ found.named in
+        let both : false ≡ true = sym named ∙ ap (λ (d : Definition). is_found dialect d name) definitions ∙ found.named in
         cc
     apart rest named e false other = rest e
 
-    go : (nearest_met before name ≡ Some m → place_of before m.numbered.number ≡ m.place) → (t : Bool) → same_text k.numbered.definition.name.sym name ≡ t
-        → cond t (Some k) (nearest_met before name) ≡ Some m → place_of (k ∷ before) m.numbered.number ≡ m.place
+    go : (nearest_met dialect before name ≡ Some m → place_of before m.numbered.number ≡ m.place) → (t : Bool) → is_found dialect k.numbered.definition name ≡ t
+        → cond t (Some k) (nearest_met dialect before name) ≡ Some m → place_of (k ∷ before) m.numbered.number ≡ m.place
     go rest true named e =
         let same : k ≡ m = some_is k m e in
         subst (λ (x : Met). place_of (k ∷ before) x.numbered.number ≡ x.place) same (ap (λ (b : Bool). cond b k.place (place_of before k.numbered.number)) (nat_eq-same k.numbered.number))
     go rest false named e = apart rest named e (nat_eq k.numbered.number m.numbered.number) refl
 
 -- a met definition in the text is what its number stands for
-pub resolved_definition : (table : Forest → ℕ → Type 0) → Tells table → (start : ℕ) (before : List Met) (name : List ℕ) (m : Met)
-    → All (IsMet table) before → nearest_met before name ≡ Some m → present_definition m ≡ resolve_definition start before m.numbered
-resolved_definition table tells start before name m h e =
-    let is_met : IsMet table m = (found_is (IsMet table) before name m h e).is_so in
+pub resolved_definition : (dialect : Dialect) (table : Forest → ℕ → Type 0) → Tells table → (start : ℕ) (before : List Met) (name : List ℕ) (m : Met)
+    → All (IsMet table) before → nearest_met dialect before name ≡ Some m → present_definition m ≡ resolve_definition start before m.numbered
+resolved_definition dialect table tells start before name m h e =
+    let is_met : IsMet table m = (found_is dialect (IsMet table) before name m h e).is_so in
     let one : (n : ℕ) × (m.numbered.number ≡ suc n) = tells.positive is_met.tree m.numbered.number is_met.entry in
     let number : m.numbered.number ≡ suc one.0 = one.1 in
     let change : Span → Span = λ s. resolve start before (anchored m.numbered.number s) in
     let place : moved_to m.place ≡ change =
-    ap moved_to (sym (place_found table tells before name m h e) ∙ ap (place_of before) number)
+    ap moved_to (sym (place_found dialect table tells before name m h e) ∙ ap (place_of before) number)
     ∙ ap (λ (n : ℕ). λ (s : Span). resolve start before (anchored n s)) (sym number) in
     ap (λ (f : Span → Span). definition_with f m.numbered.definition) place
     ∙ sym (definition_with-with (resolve start before) (anchored m.numbered.number) m.numbered.definition)
 
-nearest_present : (before : List Met) (name : List ℕ) → nearest (map present_definition before) name ≡ option_map present_definition (nearest_met before name)
-nearest_present [] name = refl
-nearest_present (m ∷ before) name = go (nearest_present before name) (same_text m.numbered.definition.name.sym name)
+nearest_present : (dialect : Dialect) (before : List Met) (name : List ℕ) → found_in dialect (map present_definition before) name ≡ option_map present_definition (nearest_met dialect before name)
+nearest_present dialect [] name = refl
+nearest_present dialect (m ∷ before) name =
+    ap (λ t. cond t (Some (present_definition m)) (found_in dialect (map present_definition before) name))
+    (is_found-with (moved_to m.place) dialect m.numbered.definition name)
+    ∙ go (nearest_present dialect before name) (is_found dialect m.numbered.definition name)
   where
-    go : nearest (map present_definition before) name ≡ option_map present_definition (nearest_met before name) → (t : Bool) → cond t (Some (present_definition m)) (nearest (map present_definition before) name) ≡ option_map present_definition (cond t (Some m) (nearest_met before name))
+    go : found_in dialect (map present_definition before) name ≡ option_map present_definition (nearest_met dialect before name)
+        → (t : Bool) → cond t (Some (present_definition m)) (found_in dialect (map present_definition before) name) ≡ option_map present_definition (cond t (Some m) (nearest_met dialect before name))
     go rest true = refl
     go rest false = rest
 
 -- a name finds the present form of what it finds by number
-pub present_scope : (table : Forest → ℕ → Type 0) → Tells table → (start : ℕ) (before : List Met)
-    → All (IsMet table) before → ScopeChange (resolve_definition start before) (numbered_scope before) (nearest (map present_definition before))
-present_scope table tells start before h name = nearest_present before name ∙ go (nearest_met before name) refl
+pub present_scope : (dialect : Dialect) (table : Forest → ℕ → Type 0) → Tells table → (start : ℕ) (before : List Met)
+    → All (IsMet table) before → ScopeChange (resolve_definition start before) (numbered_scope dialect before) (found_in dialect (map present_definition before))
+present_scope dialect table tells start before h name = nearest_present dialect before name ∙ go (nearest_met dialect before name) refl
   where
-    go : (o : Option Met) → nearest_met before name ≡ o → option_map present_definition o ≡ option_map (resolve_definition start before) (option_map numbered_of o)
+    go : (o : Option Met) → nearest_met dialect before name ≡ o → option_map present_definition o ≡ option_map (resolve_definition start before) (option_map numbered_of o)
     go None e = refl
-    go (Some m) e = ap Some (resolved_definition table tells start before name m h e)
+    go (Some m) e = ap Some (resolved_definition dialect table tells start before name m h e)
 
 -- the worlds of a session and of its text
 pub present_world : (world : World Definition) → LooksAtNoPlace world → (start : ℕ) (before : List Met)
@@ -115,13 +119,13 @@ present_world world law start before = record {
 -- a piece's expansion in places of its own, taken to the text, is its expansion there
 pub resolved_expansion : (world : World Definition) → LooksAtNoPlace world → (table : Forest → ℕ → Type 0) → Tells table
     → (start : ℕ) (before : List Met) → All (IsMet table) before → (depth : ℕ) (tree : Forest)
-    → expanded world (λ d. d) (nearest (map present_definition before)) depth (map_spans (resolve start before) tree)
-    ≡ outcome_with (resolve start before) (resolve_definition start before) (expanded (numbered_world world) unnumbered (numbered_scope before) depth tree)
+    → expanded world (λ d. d) (found_in world.dialect (map present_definition before)) depth (map_spans (resolve start before) tree)
+    ≡ outcome_with (resolve start before) (resolve_definition start before) (expanded (numbered_world world) unnumbered (numbered_scope world.dialect before) depth tree)
 resolved_expansion world law table tells start before h depth tree =
     ap (λ (a : Scoped Definition). a.outcome)
     (scoped-with (resolve start before) (resolve_definition start before) world.dialect (numbered_world world) world (present_world world law start before) unnumbered (λ d. d)
     (λ d. ap (definition_with (resolve start before)) (sym (definition_with-same d)))
-    (numbered_scope before) (nearest (map present_definition before)) (present_scope table tells start before h) depth (without_locals Top None) tree)
+    (numbered_scope world.dialect before) (found_in world.dialect (map present_definition before)) (present_scope world.dialect table tells start before h) depth (without_locals Top None) tree)
 
 -- a definition of any text, by its piece-relative tree
 pub definition_there : (p : Forest) → Stands p → definition_of p ≡ option_map (definition_with (moved_to (first_place p))) (definition_of (relative p))
@@ -169,7 +173,7 @@ members_present layers law table tells number_of depth before h (p ∷ ps) g n =
         (later (met_of layers.world depth number_of p d ∷ before) (All-cons (IsMet table) (met_of layers.world depth number_of p d) before here h))
     go from numbered later None e =
         let there : map_spans (resolve (first_start p) before) (relative p) ≡ p = resolved_piece (first_start p) before p from in
-        let scope : List ℕ → Option Definition = nearest (map present_definition before) in
+        let scope : List ℕ → Option Definition = found_in layers.world.dialect (map present_definition before) in
         let rest : List Member = members_after layers depth (map present_definition before) ps in
         ap (λ (q : Forest). plain q (expanded layers.world (λ d. d) scope depth q) ∷ rest) (sym there)
         ∙ ap (λ (o : Outcome Definition). plain (map_spans (resolve (first_start p) before) (relative p)) o ∷ rest)

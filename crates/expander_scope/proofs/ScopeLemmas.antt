@@ -6,6 +6,9 @@ use Rattle.std.specs.Prelude.{All, IfSome, OnErr, OnOk, Result, Ok, Err, Option,
 use Rattle.expander_model.specs.Held.{Met, Numbered, numbered_of, numbered_scope, nearest_met, place_of}
 use Rattle.bridge.specs.declared.printing.relative_spans.Place.{Place}
 use Rattle.small_grammar.specs.Text.{same_text}
+use Rattle.expander_model.specs.Scoping.{is_found, is_out}
+use Rattle.expander_model.specs.declared.dialect.Dialect.{Dialect}
+use Rattle.expander_model.specs.declared.scope_rules.Standing.TheVariants.{Top}
 
 get_at : {X : Type 0} (xs : List X) (x : X) → slice_get (xs ++ x ∷ []) (length xs) ≡ Some x
 get_at [] x = refl
@@ -36,31 +39,45 @@ module _ {X : Type 0} (view : X → Numbered) where
   none_at : (xs : List X) (o : Option ℕ) → o ≡ None → found_at view xs o ≡ None
   none_at xs o e = ap (found_at view xs) e
 
-nearest_first : (m : Met) (before : List Met) (name : List ℕ)
-    → numbered_scope (m ∷ before) name ≡ (if same_text m.numbered.definition.name.sym name then Some m.numbered else numbered_scope before name)
-nearest_first m before name = go (same_text m.numbered.definition.name.sym name)
+nearest_first : (dialect : Dialect) (m : Met) (before : List Met) (name : List ℕ)
+    → numbered_scope dialect (m ∷ before) name ≡ (if is_found dialect m.numbered.definition name then Some m.numbered else numbered_scope dialect before name)
+nearest_first dialect m before name = go (is_found dialect m.numbered.definition name)
   where
-    go : (b : Bool) → option_map numbered_of (if b then Some m else nearest_met before name) ≡ (if b then Some m.numbered else numbered_scope before name)
+    go : (b : Bool) → option_map numbered_of (if b then Some m else nearest_met dialect before name) ≡ (if b then Some m.numbered else numbered_scope dialect before name)
     go true = refl
     go false = refl
 
 module _ {X : Type 0} (view : X → Numbered) where
   -- no definition was met
-  pub scope_none : (xs : List X) (names : List ℕ → Option ℕ) → ((name : List ℕ) → names name ≡ None) → (λ name. found_at view xs (names name)) ≡ numbered_scope []
-  scope_none xs names none = fun_ext (λ name. none_at view xs (names name) (none name))
+  pub scope_none : (dialect : Dialect) (xs : List X) (names : List ℕ → Option ℕ) → ((name : List ℕ) → names name ≡ None)
+      → (λ name. found_at view xs (names name)) ≡ numbered_scope dialect []
+  scope_none dialect xs names none = fun_ext (λ name. none_at view xs (names name) (none name))
 
   -- one more definition: it stands at the end of the table, and its name gets its index
-  pub scope_more : (xs ys : List X) (x : X) (n : ℕ) (place : Place) (name : List ℕ) (names later : List ℕ → Option ℕ) (before : List Met)
+  pub scope_more : (dialect : Dialect) (xs ys : List X) (x : X) (n : ℕ) (place : Place) (name : List ℕ) (names later : List ℕ → Option ℕ) (before : List Met)
       → ((other : List ℕ) (i : ℕ) → names other ≡ Some i → i < length xs) → n ≡ length xs → ys ≡ xs ++ x ∷ []
       → ((other : List ℕ) → later other ≡ (if same_text name other then Some n else names other)) → name ≡ (view x).definition.name.sym
-      → (λ other. found_at view xs (names other)) ≡ numbered_scope before
-      → (λ other. found_at view ys (later other)) ≡ numbered_scope (record { place = place; numbered = view x } ∷ before)
-  scope_more xs ys x n place name names later before within counted items named is finds =
+      → is_out dialect.cfg Top (view x).definition.piece ≡ false
+      → (λ other. found_at view xs (names other)) ≡ numbered_scope dialect before
+      → (λ other. found_at view ys (later other)) ≡ numbered_scope dialect (record { place = place; numbered = view x } ∷ before)
+  scope_more dialect xs ys x n place name names later before within counted items named is inside finds =
       fun_ext (λ other.
       rw (named other, items, counted) (more_at view xs x (names other) (same_text name other) (within other))
       ∙ ap (λ (w : List ℕ). if same_text w other then Some (view x) else found_at view xs (names other)) is
       ∙ ap (λ (f : List ℕ → Option Numbered). if same_text (view x).definition.name.sym other then Some (view x) else f other) finds
-      ∙ sym (nearest_first (record { place = place; numbered = view x }) before other))
+      ∙ ap (λ b. if (if b then false else same_text (view x).definition.name.sym other) then Some (view x) else numbered_scope dialect before other) (sym inside)
+      ∙ sym (nearest_first dialect (record { place = place; numbered = view x }) before other))
+
+  -- one that is left out: its name gets no index
+  pub scope_same : (dialect : Dialect) (xs : List X) (m : Met) (names : List ℕ → Option ℕ) (before : List Met)
+      → is_out dialect.cfg Top m.numbered.definition.piece ≡ true
+      → (λ other. found_at view xs (names other)) ≡ numbered_scope dialect before
+      → (λ other. found_at view xs (names other)) ≡ numbered_scope dialect (m ∷ before)
+  scope_same dialect xs m names before out finds =
+      fun_ext (λ other.
+      ap (λ (f : List ℕ → Option Numbered). f other) finds
+      ∙ ap (λ b. if (if b then false else same_text m.numbered.definition.name.sym other) then Some m.numbered else numbered_scope dialect before other) (sym out)
+      ∙ sym (nearest_first dialect m before other))
 
 -- where definitions start, with one more
 pub place_more : (m : Met) (before : List Met) (places later : ℕ → Place)

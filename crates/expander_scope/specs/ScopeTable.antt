@@ -29,6 +29,6 @@ expanded_under grammar s dialect depth tree =
     expanded (numbered_world (world grammar s.edition dialect)) unnumbered (scope_in s) depth tree
 
 -- these definitions are in scope, given nearest first
-pub record HasMet (s : table.Scope) (before : List Met) : Type 0 where
-  pub finds : scope_in s ≡ numbered_scope before
+pub record HasMet (dialect : Dialect) (s : table.Scope) (before : List Met) : Type 0 where
+  pub finds : scope_in s ≡ numbered_scope dialect before
   pub starts : (n : ℕ) → place_at s.starts n ≡ place_of before n

@@ -1,10 +1,10 @@
 //! A traversal of a list and of those in its groups that knows where their pieces begin.
-ghost use Rattle.std.specs.Prelude.{◌≡◌, ◌++◌, ◌∷◌, [], List, OnOk, reverse};
+ghost use Rattle.std.specs.Prelude.{◌≡◌, ◌++◌, ◌∷◌, [], List, IfOk, IfSome, None, OnOk, Some, reverse};
 ghost use Rattle.tt_data.specs.declared.edition.Edition.{Edition};
 ghost use Rattle.expander_model.specs.PieceStates.{after_group};
 ghost use Rattle.expander_model.specs.WalkSteps.{groups_of};
 ghost use Rattle.expander_scope.specs.Leaving.{Leaves};
-ghost use Rattle.expander_model.specs.Scoping.{in_group, is_items};
+ghost use Rattle.expander_model.specs.Scoping.{in_group};
 ghost use Rattle.expander_scope.specs.ListsLeft.{IsAhead, IsOutAhead, can_begin};
 ghost use Rattle.expander_scope.specs.Turns.{is_alone_at};
 ghost use Rattle.expander_scope.specs.LocalTables.{AreReadIn};
@@ -12,9 +12,8 @@ ghost use Rattle.expander_scope.specs.LocalTables.{AreReadIn};
 use crate::locals::Locals;
 use expander_model::begun::Begun;
 use expander_model::definition::definition_of;
-use cfg_options::CfgOptions;
 use expander_model::dialect::Dialect;
-use expander_model::left_out::is_configured_out;
+use expander_model::left_out::{is_items, is_out};
 use expander_model::scope_rules::Standing;
 use expander_model::split::next_piece;
 use expander_model::tree_walk::TreeWalk;
@@ -123,16 +122,6 @@ pub(crate) fn in_group(begun: Begun, kind: DelimiterKind, standing: Standing) ->
     }
 }
 
-// Whether a list is one of items.
-fn is_items(standing: Standing) -> bool
-    ensures { result ≡ is_items standing }
-{
-    match standing {
-        Standing::Top | Standing::Items => true,
-        _ => false,
-    }
-}
-
 /// Whether a call whose group these trees begin with stands alone in a list of items, in
 /// parentheses or brackets.
 pub(crate) fn is_alone_at(
@@ -154,23 +143,19 @@ pub(crate) fn is_alone_at(
     }
 }
 
-// What follows the first piece of a list, if these options leave it out. Only a piece with an
-// attribute at its beginning is left out.
+// What follows the first piece of a list, if conditional compilation leaves it out.
 fn out_of_list<'a>(
-    options: &CfgOptions,
+    dialect: &Dialect,
     standing: Standing,
     trees: &TtIter<'a>,
 ) -> Result<Option<TtIter<'a>>, AllocError>
-    ensures { IfOk result (IsOutAhead (Some options.now) standing trees.now) }
+    ensures { IfOk result (IsOutAhead dialect.now.cfg standing trees.now) }
 {
-    if standing == Standing::Argument {
-        return Ok(None);
-    }
     let mut rest = trees.copied();
     let Some(piece) = next_piece(&mut rest) else {
         return Ok(None);
     };
-    if is_configured_out(options, is_items(standing), &piece)? {
+    if is_out(dialect, standing, &piece)? {
         Ok(Some(rest))
     } else {
         Ok(None)
@@ -189,14 +174,10 @@ pub(crate) fn out_ahead<'a>(
     ensures none { IfOk result (λ out. out ≡ None → walk.now.begun ≡ Begun.Nothing →
         IsOutAhead dialect.now.cfg walk.now.standing walk.now.trees.here None) }
 {
-    let Some(options) = &dialect.cfg else {
+    if dialect.cfg.is_none() || walk.begun != Begun::Nothing {
         return Ok(None);
-    };
-    if walk.begun == Begun::Nothing {
-        out_of_list(options, walk.standing, &walk.trees.here)
-    } else {
-        Ok(None)
     }
+    out_of_list(dialect, walk.standing, &walk.trees.here)
 }
 
 // Whether a definition can begin with the tree that these begin with: an attribute, `pub`, or one

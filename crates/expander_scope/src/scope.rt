@@ -23,15 +23,18 @@ pub struct Scope {
 }
 
 impl Scope {
-    ghost use Rattle.std.specs.Prelude.{◌≡◌, ◌∷◌, [], List, IfOk, IfSome, OnOk, option_map};
+    ghost use Rattle.std.specs.Prelude.{◌≡◌, ◌∷◌, [], List, IfOk, IfSome, OnOk, false, true, option_map};
     ghost use Rattle.expander_scope.specs.Editions.{IsRead};
     ghost use Rattle.expander_model.specs.Held.{Met};
+    ghost use Rattle.expander_model.specs.Scoping.{is_out};
+    ghost use Rattle.expander_model.specs.declared.dialect.Dialect.{Dialect};
+    ghost use Rattle.expander_model.specs.declared.scope_rules.Standing.TheVariants.{Top};
     ghost use Rattle.expander_scope.specs.ScopeTable.{AreRead, HasMet, scope_in};
     ghost use Rattle.expander_scope.specs.Outcomes.{numbered_of_known};
 
     /// The scope before any definition, with room for `count`.
     pub fn with_room(alloc: Global, edition: Edition, count: usize) -> Result<Self, AllocError>
-        ensures none { IfOk result (λ scope. HasMet scope []) }
+        ensures none { IfOk result (λ scope. (dialect : Dialect) → HasMet dialect scope []) }
         ensures edition { IfOk result (λ scope. scope.edition ≡ edition) }
         ensures read { IfOk result AreRead }
     {
@@ -50,7 +53,9 @@ impl Scope {
     pub fn define(&mut self, place: Place, known: Rc<MacroDef>) -> Result<(), AllocError>
         requires rules { IsRead self.old.edition known.value }
         requires read { AreRead self.old }
-        ensures met { (before : List Met) → HasMet self.old before → OnOk result (HasMet self.new
+        ensures met { (dialect : Dialect) (before : List Met) →
+            is_out dialect.cfg Top (numbered_of_known known.value).definition.piece ≡ false →
+            HasMet dialect self.old before → OnOk result (HasMet dialect self.new
             (record { place = place; numbered = numbered_of_known known.value } ∷ before)) }
         ensures edition { OnOk result (self.new.edition ≡ self.old.edition) }
         ensures read { OnOk result (AreRead self.new) }
@@ -63,6 +68,20 @@ impl Scope {
         let index = self.known.len();
         self.known.push(known)?;
         self.names.insert(name, index)
+    }
+
+    /// Adds a definition that starts at `place` and is left out: no name resolves to it.
+    pub fn pass(&mut self, place: Place, known: &MacroDef) -> Result<(), AllocError>
+        requires read { AreRead self.old }
+        ensures met { (dialect : Dialect) (before : List Met) →
+            is_out dialect.cfg Top (numbered_of_known known.now).definition.piece ≡ true →
+            HasMet dialect self.old before → OnOk result (HasMet dialect self.new
+            (record { place = place; numbered = numbered_of_known known.now } ∷ before)) }
+        ensures edition { OnOk result (self.new.edition ≡ self.old.edition) }
+        ensures read { OnOk result (AreRead self.new) }
+    {
+        self.starts.insert(known.number, place)?;
+        Ok(())
     }
 
     /// The definition that a name resolves to.

@@ -10,7 +10,10 @@ use Rattle.mbe.specs.Macros.{rules_of}
 use Rattle.mbe_rules.specs.Items.{Rules}
 use Rattle.bridge.specs.RelativeSpans.{moved_to, own_place}
 use Rattle.bridge.specs.declared.printing.relative_spans.Place.{Place}
-use Rattle.tt_data.specs.Forest.{Forest}
+use Rattle.tt_data.specs.Forest.{Forest, map_spans}
+use Rattle.expander_model.specs.Scoping.{is_out}
+use Rattle.expander_model.specs.declared.scope_rules.Standing.TheVariants.{Top}
+use Rattle.textual_scope.proofs.ChangeLemmas.{is_out-with}
 use Rattle.tt_data.specs.declared.edition.Edition.{Edition}
 use Rattle.expander_model.specs.declared.dialect.Dialect.{Dialect}
 use Rattle.tt_data.specs.declared.span.TextRange.{TextRange}
@@ -26,7 +29,7 @@ use Rattle.expander_model.specs.Meaning.{Layers, member_faults, output_of}
 use Rattle.expander_model.specs.OtherPlaces.{LooksAtNoPlace, definition_with}
 use Rattle.expander_session.specs.Emitting.{PutsOut}
 use Rattle.expander_scope.specs.Outcomes.{numbered_of_known, placed_of}
-use Rattle.expander_session.specs.AbsoluteSpans.{base_at, range_from, resolved_by, resolved_faults, resolved_steps, told_if_broken}
+use Rattle.expander_session.specs.AbsoluteSpans.{base_at, range_from, resolved_by, resolved_faults, resolved_steps, told_if_broken, told_of}
 use Rattle.expander_scope.specs.OffsetTables.{place_at}
 use Rattle.expander_model.specs.declared.fault.Fault.{Fault}
 use Rattle.expander_model.specs.World.{rules_in, world}
@@ -95,10 +98,17 @@ module _ (layers : Layers) (start : ℕ) (starts : Offsets) (before : List Met) 
 
 -- a definition in places of its own tells what that of the text does
 pub met_faults : (grammar : Grammar) (edition : Edition) (dialect : Dialect) → LooksAtNoPlace (world grammar edition dialect) → (place : Place) (k : MacroDef) → IsRead edition k
-    → told_if_broken place.start k ≡ member_faults (layers grammar edition dialect) (present (met (record { place = place; numbered = numbered_of_known k })))
+    → told_of dialect place.start k ≡ member_faults (layers grammar edition dialect) (present (met (record { place = place; numbered = numbered_of_known k })))
 met_faults grammar edition dialect law place k read =
     let d : Definition = (numbered_of_known k).definition in
     let broken : is_some (rules_of k.rules).err ≡ is_some (rules_in edition (definition_with (moved_to place) d)).err =
     ap (λ (r : Rules). is_some r.err) read ∙ law.broken (anchored k.number) d ∙ sym (law.broken (moved_to place) d) in
+    let valid : told_if_broken place.start k ≡ told_at (is_some (rules_in edition (definition_with (moved_to place) d)).err) =
     ap (λ (b : Bool). if b then record { kind = BrokenDefinition; range = range_from place.start k.place } ∷ [] else []) broken
-    ∙ ap (λ (r : TextRange). if is_some (rules_in edition (definition_with (moved_to place) d)).err then record { kind = BrokenDefinition; range = range_from place.start r } ∷ [] else []) k.placed
+    ∙ ap (λ (r : TextRange). if is_some (rules_in edition (definition_with (moved_to place) d)).err then record { kind = BrokenDefinition; range = range_from place.start r } ∷ [] else []) k.placed in
+    ap (λ (b : Bool). if b then [] else told_if_broken place.start k) (sym (is_out-with (moved_to place) dialect.cfg Top d.piece))
+    ∙ ap (λ (l : List Fault). if is_out dialect.cfg Top (map_spans (moved_to place) d.piece) then [] else l) valid
+  where
+    told_at : Bool → List Fault
+    told_at b =
+        if b then record { kind = BrokenDefinition; range = range_from place.start (numbered_of_known k).definition.name.span.range } ∷ [] else []

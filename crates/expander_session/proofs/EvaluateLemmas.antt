@@ -57,7 +57,7 @@ module _ (world : World Definition) (depth : ℕ) (old : Forest → Option ℕ) 
   module _ (equal : (f g : Forest) → (same_forest f g ≡ true) ↔ (f ≡ g)) (same : (a b : Top) → (same_top a b ≡ true) ↔ (a ≡ b)) where
     -- what matches is what an expansion gives
     pub matched_parts : (given : ℕ) (now : Forest → Option ℕ) → AreNumbers given now → ((t : Forest) (n : ℕ) → old t ≡ Some n → now t ≡ Some n)
-        → (scope : List ℕ → Option Numbered) (before : List Met) → scope ≡ numbered_scope before → All (IsMet (numbered_by now)) before
+        → (scope : List ℕ → Option Numbered) (before : List Met) → scope ≡ numbered_scope world.dialect before → All (IsMet (numbered_by now)) before
         → (t : Top) (q : Memo) → t.delimiter ≡ text_top → IsRight world depth old q → is_match scope t q ≡ true
         → Holds q (parts_of (expanded (numbered_world world) unnumbered scope depth t.inner))
     matched_parts given now are more scope before scope_is met t q is right e =
@@ -65,16 +65,16 @@ module _ (world : World Definition) (depth : ℕ) (old : Forest → Option ℕ) 
         let held : IsHeld world depth (numbered_by now) piece =
         All-head (IsHeld world depth (numbered_by now)) piece []
         (more_held world depth (numbered_by old) (numbered_by now) more (piece ∷ []) (All-cons (IsHeld world depth (numbered_by old)) piece [] right.held (All-nil (IsHeld world depth (numbered_by old))))) in
-        let matching : matches (numbered_scope before) t.inner piece ≡ true =
+        let matching : matches (numbered_scope world.dialect before) t.inner piece ≡ true =
         ap (λ (s : List ℕ → Option Numbered). matches s t.inner piece) (sym scope_is) ∙ sym (matches_is scope t q is right) ∙ e in
-        let outcome : piece.outcome ≡ expanded (numbered_world world) unnumbered (numbered_scope before) depth t.inner =
-        match_is equal world depth (numbered_by now) (numbers_tell given now are) (numbered_scope before) (met_scope equal (numbered_by now) before met) t.inner piece held matching in
+        let outcome : piece.outcome ≡ expanded (numbered_world world) unnumbered (numbered_scope world.dialect before) depth t.inner =
+        match_is equal world depth (numbered_by now) (numbers_tell given now are) (numbered_scope world.dialect before) (met_scope equal world.dialect (numbered_by now) before met) t.inner piece held matching in
         subst (λ (s : List ℕ → Option Numbered). Holds q (parts_of (expanded (numbered_world world) unnumbered s depth t.inner))) (sym scope_is)
         (subst (λ (o : Outcome Numbered). Holds q (parts_of o)) outcome right.parts)
 
     -- one that is found to match among such pieces has what an expansion gives
     pub found_parts : (given : ℕ) (now : Forest → Option ℕ) → AreNumbers given now → ((t : Forest) (n : ℕ) → old t ≡ Some n → now t ≡ Some n)
-        → (scope : List ℕ → Option Numbered) (before : List Met) → scope ≡ numbered_scope before → All (IsMet (numbered_by now)) before
+        → (scope : List ℕ → Option Numbered) (before : List Met) → scope ≡ numbered_scope world.dialect before → All (IsMet (numbered_by now)) before
         → (t : Top) → t.delimiter ≡ text_top → (qs : List (Rc Memo Global)) → All (λ x. IsRight world depth old (rc_value x)) qs
         → (i : ℕ) (q : Rc Memo Global) → slice_get qs i ≡ Some q → IfSome (slice_get qs i) (λ x. is_match scope t (rc_value x) ≡ true)
         → Holds (rc_value q) (parts_of (expanded (numbered_world world) unnumbered scope depth t.inner))

@@ -177,7 +177,7 @@ module _ (laws : TurnLaws) (grammar : Grammar) (edition : Edition) (dialect : Di
       (are_pieces (numbered_by now) (number_by now) (pieces f) stand have_now)
 
   -- as many count as nothing held matches
-  pub taken_count : expanded_count (Some (map looked_held held)) (looked_of (members_in (layers grammar edition dialect) depth (definitions_after [] prelude) f)) ≡ length (filter (is_unmatched held) news)
+  pub taken_count : expanded_count (Some (map looked_held held)) (looked_of (members_in (layers grammar edition dialect) depth (definitions_after [] prelude) f)) ≡ length (filter (is_unmatched dialect held) news)
   taken_count =
       ap (λ (ms : List Member). expanded_count (Some (map looked_held held)) (looked_of ms)) taken_members
       ∙ count_is laws.equal (world grammar edition dialect) depth both tell_both held right_both news kept_both

@@ -90,7 +90,7 @@ module _ {G : Type 0} (grammar : Grammar) (edition : Edition) (dialect : Dialect
     abbrev news : List Kept
     news = kept_in grammar edition dialect s.depth now s.prelude (pieces f)
 
-    pub taken_reply : (new : State G) (e : Expanded) → ShowsText L ms (length (filter (is_unmatched (unwrap_or held [])) news)) e → KeepsSetting s new
+    pub taken_reply : (new : State G) (e : Expanded) → ShowsText L ms (length (filter (is_unmatched dialect (unwrap_or held [])) news)) e → KeepsSetting s new
         → new.held ≡ Some (map looked_held (filter_map held_of news)) → new.trees ≡ definition_trees s.prelude ++ definition_trees (pieces f) → new.given ≡ given
         → Replies L s new (Read e)
     taken_reply new e shows keeps holds trees gives = (

@@ -33,7 +33,7 @@ use Rattle.expander_session.specs.Emitting.{HasOutput, PutsOut}
 use Rattle.expander_scope.specs.Outcomes.{numbered_of_known, parts_of}
 use Rattle.expander_model.specs.Pieces.{first_start, relative}
 use Rattle.expander_model.specs.Scoping.{expanded}
-use Rattle.expander_session.specs.AbsoluteSpans.{resolved_faults, resolved_steps, told_if_broken}
+use Rattle.expander_session.specs.AbsoluteSpans.{resolved_faults, resolved_steps, told_of}
 use Rattle.expander_session.specs.Memos.{finds_of, tree_of}
 use Rattle.expander_session.specs.Reuse.{HeldPiece, IsHeld, matches}
 use Rattle.expander_session.specs.Evaluating.{Grows, HasTaken, IsEvaluated}
@@ -127,23 +127,23 @@ module _ (given : ℕ) (old : Forest → Option ℕ) (known trees : List Forest)
 
 module _ (equal : (f g : Forest) → (same_forest f g ≡ true) ↔ (f ≡ g)) (w : World Definition) (depth : ℕ) (numbers : Forest → Option ℕ) (before : List Met)
     (known : All (IsMet (numbered_by numbers)) before) (tree : Forest) (q : Memo) (top : tree_of q ≡ own_top tree)
-    (parts : Holds q (parts_of (expanded (numbered_world w) unnumbered (numbered_scope before) depth tree))) where
+    (parts : Holds q (parts_of (expanded (numbered_world w) unnumbered (numbered_scope w.dialect before) depth tree))) where
   trees_same : (tree_of q).inner ≡ tree
   trees_same = ap (λ (t : Top). t.inner) top
 
   -- it is what its expansion is
-  pub piece_found : piece_of w depth q ≡ record { tree = tree; outcome = expanded (numbered_world w) unnumbered (numbered_scope before) depth tree }
+  pub piece_found : piece_of w depth q ≡ record { tree = tree; outcome = expanded (numbered_world w) unnumbered (numbered_scope w.dialect before) depth tree }
   piece_found =
       ap (λ (t : Forest). record { tree = t; outcome = expanded (numbered_world w) unnumbered (scope_of (finds_of q)) depth t }) trees_same
       ∙ ap (λ (fs : List (List ℕ × Option Numbered)). record { tree = tree; outcome = expanded (numbered_world w) unnumbered (scope_of fs) depth tree }) parts.finds
-      ∙ ap (λ (o : Outcome Numbered). record { tree = tree; outcome = o }) (expanded_by_finds (numbered_world w) unnumbered (numbered_scope before) depth tree)
+      ∙ ap (λ (o : Outcome Numbered). record { tree = tree; outcome = o }) (expanded_by_finds (numbered_world w) unnumbered (numbered_scope w.dialect before) depth tree)
 
   pub piece_right : is_some (definition_of tree) ≡ false → IsRight w depth numbers q
   piece_right plain = record {
     top = ap (λ (t : Top). t.delimiter) top;
     parts = subst (λ (p : HeldPiece). Holds q (parts_of p.outcome)) (sym piece_found) parts;
     held = subst (IsHeld w depth (numbered_by numbers)) (sym piece_found)
-        (fresh_is_held equal w depth (numbered_by numbers) (numbered_scope before) (met_scope equal (numbered_by numbers) before known) tree);
+        (fresh_is_held equal w depth (numbered_by numbers) (numbered_scope w.dialect before) (met_scope equal w.dialect (numbered_by numbers) before known) tree);
     plain = ap (λ (t : Forest). is_some (definition_of t)) trees_same ∙ plain;
   }
 
@@ -186,7 +186,7 @@ module _ (grammar : Grammar) (edition : Edition) (dialect : Dialect) (depth : �
   pub parts_taken : (t : Top) (q : Memo) → t ≡ own_top r
       → ((given : ℕ) (numbers : Forest → Option ℕ) (before : List Met) → AreNumbers given numbers → MoreNumbers (numbers_in old.by_tree) numbers
       → All (λ q. IsRight W depth numbers (rc_value q)) now.taken.plains.items
-      → scope_in now.scope ≡ numbered_scope before → All (IsMet (numbered_by numbers)) before
+      → scope_in now.scope ≡ numbered_scope dialect before → All (IsMet (numbered_by numbers)) before
       → Holds q (parts_of (expanded (numbered_world W) unnumbered (scope_in now.scope) depth t.inner)))
       → (before : List Met) (trees : List Forest) (done : List Kept) → Has before trees done now
       → Holds q (parts_of (expanded (numbered_world W) unnumbered (scope_in now.scope) depth r))
@@ -213,7 +213,7 @@ module _ (grammar : Grammar) (edition : Edition) (dialect : Dialect) (depth : �
     module _ (before : List Met) (trees : List Forest) (done : List Kept) (has : Has before trees done now)
         (parts : Holds (rc_value q) (parts_of (expanded (numbered_world W) unnumbered (scope_in now.scope) depth r))) where
       abbrev E : Outcome Numbered
-      E = expanded (numbered_world W) unnumbered (numbered_scope before) depth r
+      E = expanded (numbered_world W) unnumbered (numbered_scope dialect before) depth r
 
       abbrev k : Kept
       k = kept start before r E
@@ -237,10 +237,10 @@ module _ (grammar : Grammar) (edition : Edition) (dialect : Dialect) (depth : �
           ap (λ fs. resolved_faults start now.scope.starts fs) parts_now.faults
           ∙ kept_faults L start now.scope.starts before has.met.starts r E
 
-      number_more : ◌≡◌ {A = ℕ} (cond matched 0 1) (cond (is_unmatched held k) 1 0)
+      number_more : ◌≡◌ {A = ℕ} (cond matched 0 1) (cond (is_unmatched dialect held k) 1 0)
       number_more =
           ap (λ (b : Bool). cond b 0 1) (counted ∙ ap (λ s. list_any (matches s r) held) has.met.finds)
-          ∙ go (list_any (matches (numbered_scope before) r) held)
+          ∙ go (list_any (matches (numbered_scope dialect before) r) held)
         where
           go : (b : Bool) → ◌≡◌ {A = ℕ} (cond b 0 1) (cond (not b) 1 0)
           go true = refl
@@ -248,7 +248,7 @@ module _ (grammar : Grammar) (edition : Edition) (dialect : Dialect) (depth : �
 
       pub one_plain : is_some (definition_of r) ≡ false → Has before trees (done ++ k ∷ []) next
       one_plain plain = record {
-        met = subst (λ s. HasMet s before) (sym scope_is) has.met;
+        met = subst (λ s. HasMet dialect s before) (sym scope_is) has.met;
         known = subst (λ n. All (IsMet (numbered_by (numbers_in n.by_tree))) before) (sym numbers_are) has.known;
         read = subst AreRead (sym scope_is) has.read;
         edition_is = ap (λ s. s.edition) scope_is ∙ has.edition_is;
@@ -272,7 +272,7 @@ module _ (grammar : Grammar) (edition : Edition) (dialect : Dialect) (depth : �
           faults = faults ∙ ap (λ l. l ++ resolved_faults start now.scope.starts (rc_value q).faults.items) has.taken.faults
               ∙ ap (λ l. flat_map (member_faults L) (map present done) ++ l) put_faults ∙ sym (flat_present (member_faults L) done k);
           expanded = more ∙ ap (λ n. n + cond matched 0 1) has.taken.expanded
-              ∙ ap (λ n. length (filter (is_unmatched held) done) + n) number_more ∙ sym (counted_more (is_unmatched held) done k);
+              ∙ ap (λ n. length (filter (is_unmatched dialect held) done) + n) number_more ∙ sym (counted_more (is_unmatched dialect held) done k);
         };
       }
 
@@ -296,7 +296,7 @@ module _ (grammar : Grammar) (edition : Edition) (dialect : Dialect) (depth : �
       (expanded_are : next.taken.expanded ≡ now.taken.expanded) where
     module _ (before : List Met) (trees : List Forest) (done : List Kept) (has : Has before trees done now)
         (numbered : HasNumbered old.given old.by_tree (trees_of old) (trees ++ r ∷ []) next.taken.numbers)
-        (defined : HasMet next.scope (record { place = first_place piece; numbered = numbered_of_known k } ∷ before)) where
+        (defined : HasMet dialect next.scope (record { place = first_place piece; numbered = numbered_of_known k } ∷ before)) where
       abbrev numbers : Forest → Option ℕ
       numbers = numbers_in next.taken.numbers.by_tree
 
@@ -345,7 +345,7 @@ module _ (grammar : Grammar) (edition : Edition) (dialect : Dialect) (depth : �
           Has (with_met W depth (number_by numbers) piece o before) (trees ++ cond (is_some o) (r ∷ []) []) done next) (sym definition_there)
           (subst (λ (x : Met). Has (x ∷ before) (trees ++ r ∷ []) done next) (sym same) (one_met faults))
 
-      module _ (law : LooksAtNoPlace W) (read : IsRead edition k) (faults : next.taken.faults.items ≡ now.taken.faults.items ++ told_if_broken start k) where
+      module _ (law : LooksAtNoPlace W) (read : IsRead edition k) (faults : next.taken.faults.items ≡ now.taken.faults.items ++ told_of dialect start k) where
         one_defined : Has (m ∷ before) (trees ++ r ∷ []) (done ++ met m ∷ []) next
         one_defined = record {
           met = defined;
@@ -363,10 +363,10 @@ module _ (grammar : Grammar) (edition : Edition) (dialect : Dialect) (depth : �
             hashes = ap (λ hs. hs.items) hashes_are ∙ has.taken.hashes ∙ ap (λ ps. map (λ (x : Rc Memo Global). tree_hash (tree_of (rc_value x))) ps.items) (sym plains_are);
             steps = subst (λ s. HasOutput s (flat_map output_of (map present (done ++ met m ∷ [])))) (sym steps_are)
                 (subst (HasOutput now.taken.steps) (sym (append-nil (flat_map output_of (map present done))) ∙ sym (flat_present output_of done (met m))) has.taken.steps);
-            faults = faults ∙ ap (λ l. l ++ told_if_broken start k) has.taken.faults
+            faults = faults ∙ ap (λ l. l ++ told_of dialect start k) has.taken.faults
                 ∙ ap (λ l. flat_map (member_faults L) (map present done) ++ l) (met_faults grammar edition dialect law (first_place piece) k read)
                 ∙ sym (flat_present (member_faults L) done (met m));
-            expanded = expanded_are ∙ has.taken.expanded ∙ none_more (length (filter (is_unmatched held) done)) ∙ sym (counted_more (is_unmatched held) done (met m));
+            expanded = expanded_are ∙ has.taken.expanded ∙ none_more (length (filter (is_unmatched dialect held) done)) ∙ sym (counted_more (is_unmatched dialect held) done (met m));
           };
         }
           where

@@ -10,7 +10,7 @@ use Rattle.tt_data.specs.Forest.{Forest, map_spans}
 use Rattle.tt_data.specs.declared.edition.Edition.{Edition}
 use Rattle.expander_scope.specs.Interning.{AllRead, numbers_in}
 use Rattle.expander_model.specs.EqualTrees.{same_forest}
-use Rattle.expander_model.specs.Definitions.{Definition, definition_of, nearest}
+use Rattle.expander_model.specs.Definitions.{Definition, definition_of}
 use Rattle.expander_model.specs.Expansion.{Outcome, World}
 use Rattle.expander_model.specs.Held.{IsMet, Kept, Met, Numbered, StandFromFirst, Stands, Tells, first_place, kept_after, kept_of, met, mets_after, numbered_world, present, present_definition, resolve, unnumbered, with_met}
 use Rattle.expander_model.specs.DefinitionTrees.{definition_trees}
@@ -22,7 +22,7 @@ use Rattle.expander_scope.specs.DefinitionIds.{number_by, numbered_by}
 use Rattle.expander_scope.specs.NewNumbers.{needed}
 use Rattle.expander_model.specs.OtherPlaces.{LooksAtNoPlace, definition_with}
 use Rattle.expander_model.specs.Pieces.{first_start, relative}
-use Rattle.expander_model.specs.Scoping.{expanded}
+use Rattle.expander_model.specs.Scoping.{expanded, found_in}
 use Rattle.expander_session.specs.Evaluating.{CanDefine, Evaluates, Grows, HasImported, HasTaken, IsEvaluated, MakesTooMany, NeedsMore}
 use Rattle.expander_session.specs.EvaluatedTexts.{kept_in}
 use Rattle.expander_session.specs.TooMany.{bursts}
@@ -66,7 +66,7 @@ module _ (grammar : Grammar) (edition : Edition) (dialect : Dialect) (depth : �
         ≡ map present done ++ members_after L depth (map present_definition before) rest
 
   -- nothing is in scope, and nothing is evaluated
-  pub none_imported : (now : Evaluation) → HasMet now.scope [] → AreRead now.scope → now.scope.edition ≡ edition
+  pub none_imported : (now : Evaluation) → HasMet dialect now.scope [] → AreRead now.scope → now.scope.edition ≡ edition
       → IsEvaluated W edition depth old L [] [] now.taken → HasImported grammar edition dialect depth old [] now
   none_imported now has_met read edition_is taken = record {
     met = has_met;
@@ -144,7 +144,7 @@ module _ (grammar : Grammar) (edition : Edition) (dialect : Dialect) (depth : �
           go (Some d) = refl
           go None =
               let there : map_spans (resolve (first_start piece) l.before) r ≡ piece = resolved_piece (first_start piece) l.before piece from in
-              let scope : List ℕ → Option Definition = nearest (map present_definition l.before) in
+              let scope : List ℕ → Option Definition = found_in W.dialect (map present_definition l.before) in
               let later : List Member = members_after L depth (map present_definition l.before) rest in
               ap (λ (q : Forest). plain q (expanded W (λ d. d) scope depth q) ∷ later) (sym there)
               ∙ ap (λ (o : Outcome Definition). plain (map_spans (resolve (first_start piece) l.before) r) o ∷ later)

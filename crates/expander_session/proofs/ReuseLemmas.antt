@@ -19,6 +19,7 @@ use Rattle.small_grammar.specs.Text.{same_text}
 use Rattle.expander_session.proofs.ExpandedLemmas.{expanded_by_finds, found_expanded, same_expanded}
 use Rattle.expander_model.proofs.DefinitionPlaceLemmas.{definition_piece}
 use Rattle.expander_scope.proofs.HeldLemmas.{found_is, same_definition}
+use Rattle.expander_model.specs.declared.dialect.Dialect.{Dialect}
 
 text_is : (a b : List ℕ) → same_text a b ≡ true → a ≡ b
 text_is a b = (bytes_eq-Decides a b).0
@@ -44,12 +45,12 @@ module _ (equal : (f g : Forest) → (same_forest f g ≡ true) ↔ (f ≡ g)) w
   abbrev IsScope : (Forest → ℕ → Type 0) → Scope → Type 0
   IsScope table scope = (name : List ℕ) → FoundIs (IsNumbered table) (name, scope name)
 
-  pub met_scope : (table : Forest → ℕ → Type 0) (before : List Met) → All (IsMet table) before → IsScope table (numbered_scope before)
-  met_scope table before h name = go (nearest_met before name) refl
+  pub met_scope : (dialect : Dialect) (table : Forest → ℕ → Type 0) (before : List Met) → All (IsMet table) before → IsScope table (numbered_scope dialect before)
+  met_scope dialect table before h name = go (nearest_met dialect before name) refl
     where
-      go : (o : Option Met) → nearest_met before name ≡ o → FoundIs (IsNumbered table) (name, option_map numbered_of o)
+      go : (o : Option Met) → nearest_met dialect before name ≡ o → FoundIs (IsNumbered table) (name, option_map numbered_of o)
       go None e = tt
-      go (Some m) e = (found_is (IsMet table) before name m h e).is_so
+      go (Some m) e = (found_is dialect (IsMet table) before name m h e).is_so
 
   -- the finds of an expansion have numbers of the table
   pub found_numbers : (table : Forest → ℕ → Type 0) (scope : Scope) → IsScope table scope → (finds : List (List ℕ × Option Numbered)) → FoundIn scope finds → All (FoundIs (IsNumbered table)) finds

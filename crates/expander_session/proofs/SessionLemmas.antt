@@ -177,8 +177,8 @@ module _ (laws : TurnLaws) {G : Type 0} (given : G) (grammar : Grammar) (edition
           taken_reply grammar edition dialect before f read laws stands is_text (numbers_in old.by_tree) m.given (numbers_in m.by_tree) takes.numbers (hold b) h
           (session_with text given edition dialect depth prelude m) e
           (shows_text (layers grammar edition dialect) all (map present news) same
-          (length (filter (is_unmatched (held_pieces old)) news)) (length (filter (is_unmatched (unwrap_or (hold b) [])) news))
-          (ap (λ qs. length (filter (is_unmatched qs) news)) (sym (none_held b is))) e takes.shows)
+          (length (filter (is_unmatched dialect (held_pieces old)) news)) (length (filter (is_unmatched dialect (unwrap_or (hold b) [])) news))
+          (ap (λ qs. length (filter (is_unmatched dialect qs) news)) (sym (none_held b is))) e takes.shows)
           (record { text = refl; grammar = refl; edition = refl; dialect = refl; depth = refl; prelude = refl })
           (ap (λ b. if b then Some (map (λ q. looked_plain (rc_value q)) m.plains.items) else None) takes.was_read
           ∙ ap Some (sym (all_looked (world grammar edition dialect) depth (numbers_in m.by_tree) m.plains.items takes.right.right))

@@ -21,6 +21,7 @@ use Rattle.expander_session.proofs.ExpandedLemmas.{found_expanded}
 use Rattle.expander_scope.proofs.HeldLemmas.{found_is, resolved_definition}
 use Rattle.expander_model.proofs.PlaceLemmas.{own_stands, piece_and_back, resolved_piece}
 use Rattle.expander_session.proofs.ReuseLemmas.{fresh_is_held, matches_are_same, met_scope, reuse_is, seen}
+use Rattle.expander_model.specs.declared.dialect.Dialect.{Dialect}
 
 -- a piece of a text: no token is before its first; and where it is a definition, its tree has its number
 pub record IsPiece (table : Forest → ℕ → Type 0) (number_of : Forest → ℕ) (p : Forest) : Type 0 where
@@ -88,7 +89,7 @@ module _ (equal : (f g : Forest) → (same_forest f g ≡ true) ↔ (f ≡ g)) w
           (All-cons (StandsInText table) (met_of world depth number_of p d) before (met_there world depth table number_of p d (own_stands p here.from) here.numbered e) h))
       go here later None e =
           ap (λ (o : Outcome Numbered). kept (first_start p) before (relative p) o ∷ taken_after world depth number_of held before ps)
-          (reuse_is equal world depth table tells (numbered_scope before) (met_scope equal table before (mets table before h)) (relative p) held all)
+          (reuse_is equal world depth table tells (numbered_scope world.dialect before) (met_scope equal world.dialect table before (mets table before h)) (relative p) held all)
           ∙ ap (λ (ks : List Kept). kept_of world depth number_of before p None ∷ ks) (later before h)
 
   -- each piece stands as it should
@@ -120,36 +121,36 @@ module _ (equal : (f g : Forest) → (same_forest f g ≡ true) ↔ (f ≡ g)) w
       let here : IsPlain world depth table start before tree outcome = All-head (IsKept world depth table) (kept start before tree outcome) ks h in
       All-cons (IsHeld world depth table) (record { tree = tree; outcome = outcome }) (filter_map held_of ks)
       (subst (λ (o : Outcome Numbered). IsHeld world depth table (record { tree = tree; outcome = o })) (sym here.outcome)
-      (fresh_is_held equal world depth table (numbered_scope before) (met_scope equal table before (mets table before here.met)) tree))
+      (fresh_is_held equal world depth table (numbered_scope world.dialect before) (met_scope equal world.dialect table before (mets table before here.met)) tree))
       (held_are world depth table ks (All-tail (IsKept world depth table) (kept start before tree outcome) ks h))
 
   -- ---- the count
 
   -- a definition that was found, as the count sees it
-  pub found_seen : (table : Forest → ℕ → Type 0) → Tells table → (start : ℕ) (before : List Met) → All (StandsInText table) before → (name : List ℕ) (o : Option Met) → nearest_met before name ≡ o
+  pub found_seen : (dialect : Dialect) (table : Forest → ℕ → Type 0) → Tells table → (start : ℕ) (before : List Met) → All (StandsInText table) before → (name : List ℕ) (o : Option Met) → nearest_met dialect before name ≡ o
       → found_piece (option_map (resolve_definition start before) (option_map numbered_of o)) ≡ option_map (λ (d : Numbered). d.definition.piece) (option_map numbered_of o)
-  found_seen table tells start before h name None e = refl
-  found_seen table tells start before h name (Some m) e =
-      let is_met : StandsInText table m = (found_is (StandsInText table) before name m h e).is_so in
+  found_seen dialect table tells start before h name None e = refl
+  found_seen dialect table tells start before h name (Some m) e =
+      let is_met : StandsInText table m = (found_is dialect (StandsInText table) before name m h e).is_so in
       let piece : m.numbered.definition.piece ≡ relative is_met.piece = definition_piece is_met.numbered.tree m.numbered.definition is_met.numbered.definition ∙ is_met.tree in
       let first : Place = record { text = m.place.text; start = first_start is_met.piece } in
       let there : map_spans (moved_to m.place) m.numbered.definition.piece ≡ is_met.piece =
       ap (λ (n : ℕ). map_spans (moved_to (record { text = m.place.text; start = n })) m.numbered.definition.piece) is_met.start
       ∙ ap (map_spans (moved_to first)) piece ∙ piece_and_back first is_met.piece is_met.from in
-      ap (λ (d : Definition). Some (relative d.piece)) (sym (resolved_definition table tells start before name m (mets table before h) e))
+      ap (λ (d : Definition). Some (relative d.piece)) (sym (resolved_definition dialect table tells start before name m (mets table before h) e))
       ∙ ap (λ (p : Forest). Some (relative p)) there ∙ ap Some (sym piece)
 
-  finds_seen : (table : Forest → ℕ → Type 0) → Tells table → (start : ℕ) (before : List Met) → All (StandsInText table) before → (finds : List (List ℕ × Option Numbered))
-      → FoundIn (numbered_scope before) finds
+  finds_seen : (dialect : Dialect) (table : Forest → ℕ → Type 0) → Tells table → (start : ℕ) (before : List Met) → All (StandsInText table) before → (finds : List (List ℕ × Option Numbered))
+      → FoundIn (numbered_scope dialect before) finds
       → map (λ (f : List ℕ × Option Definition). (f.0, found_piece f.1)) (map (find_with (resolve_definition start before)) finds) ≡ map seen finds
-  finds_seen table tells start before h [] g = refl
-  finds_seen table tells start before h (x ∷ finds) g =
+  finds_seen dialect table tells start before h [] g = refl
+  finds_seen dialect table tells start before h (x ∷ finds) g =
       let one : found_piece (option_map (resolve_definition start before) x.1) ≡ option_map (λ (d : Numbered). d.definition.piece) x.1 =
       ap (λ (o : Option Numbered). found_piece (option_map (resolve_definition start before) o)) (sym g.0)
-      ∙ found_seen table tells start before h x.0 (nearest_met before x.0) refl
+      ∙ found_seen dialect table tells start before h x.0 (nearest_met dialect before x.0) refl
       ∙ ap (option_map (λ (d : Numbered). d.definition.piece)) g.0 in
       ap (λ (o : Option Forest). (x.0, o) ∷ map (λ (f : List ℕ × Option Definition). (f.0, found_piece f.1)) (map (find_with (resolve_definition start before)) finds)) one
-      ∙ ap (λ (fs : List (List ℕ × Option Forest)). seen x ∷ fs) (finds_seen table tells start before h finds g.1)
+      ∙ ap (λ (fs : List (List ℕ × Option Forest)). seen x ∷ fs) (finds_seen dialect table tells start before h finds g.1)
 
   -- a plain piece of a text, as the count sees it, is what is held of it
   pub looked_present : (world : World Definition) (depth : ℕ) (table : Forest → ℕ → Type 0) → Tells table → (start : ℕ) (before : List Met) (tree : Forest) (outcome : Outcome Numbered)
@@ -157,9 +158,9 @@ module _ (equal : (f g : Forest) → (same_forest f g ≡ true) ↔ (f ≡ g)) w
   looked_present world depth table tells start before tree outcome h =
       let there : map_spans (resolve start before) tree ≡ h.piece =
       ap (λ (n : ℕ). map_spans (resolve n before) tree) h.start ∙ ap (map_spans (resolve (first_start h.piece) before)) h.tree ∙ resolved_piece (first_start h.piece) before h.piece h.from in
-      let found : FoundIn (numbered_scope before) outcome.finds =
-      subst (λ (o : Outcome Numbered). FoundIn (numbered_scope before) o.finds) (sym h.outcome) (found_expanded (numbered_world world) unnumbered (numbered_scope before) depth tree) in
-      let finds = finds_seen table tells start before h.met outcome.finds found in
+      let found : FoundIn (numbered_scope world.dialect before) outcome.finds =
+      subst (λ (o : Outcome Numbered). FoundIn (numbered_scope world.dialect before) o.finds) (sym h.outcome) (found_expanded (numbered_world world) unnumbered (numbered_scope world.dialect before) depth tree) in
+      let finds = finds_seen world.dialect table tells start before h.met outcome.finds found in
       let trees : relative (map_spans (resolve start before) tree) ≡ tree = ap relative there ∙ sym h.tree in
       λ i. Some (record { tree = trees i; finds = finds i })
 
@@ -174,32 +175,32 @@ module _ (equal : (f g : Forest) → (same_forest f g ≡ true) ↔ (f ≡ g)) w
 
   unmatched_one : (world : World Definition) (depth : ℕ) (table : Forest → ℕ → Type 0) → Tells table → (held : List HeldPiece) → All (IsHeld world depth table) held
       → (start : ℕ) (before : List Met) (tree : Forest) (outcome : Outcome Numbered) → IsPlain world depth table start before tree outcome
-      → list_any (is_same (looked_at tree outcome)) (map looked_held held) ≡ list_any (matches (numbered_scope before) tree) held
+      → list_any (is_same (looked_at tree outcome)) (map looked_held held) ≡ list_any (matches (numbered_scope world.dialect before) tree) held
   unmatched_one world depth table tells held all start before tree outcome h =
       ap (λ (o : Outcome Numbered). list_any (is_same (looked_at tree o)) (map looked_held held)) h.outcome
-      ∙ matches_are_same equal world depth table tells (numbered_scope before) (met_scope equal table before (mets table before h.met)) tree held all
+      ∙ matches_are_same equal world depth table tells (numbered_scope world.dialect before) (met_scope equal world.dialect table before (mets table before h.met)) tree held all
 
   -- the count is the number of plain pieces that nothing held matches
   pub count_is : (world : World Definition) (depth : ℕ) (table : Forest → ℕ → Type 0) → Tells table → (held : List HeldPiece) → All (IsHeld world depth table) held
       → (ks : List Kept) → All (IsKept world depth table) ks
-      → expanded_count (Some (map looked_held held)) (looked_of (map present ks)) ≡ length (filter (is_unmatched held) ks)
+      → expanded_count (Some (map looked_held held)) (looked_of (map present ks)) ≡ length (filter (is_unmatched world.dialect held) ks)
   count_is world depth table tells held all ks h =
       ap (λ (ls : List Looked). expanded_count (Some (map looked_held held)) ls) (looked_are_held world depth table tells ks h) ∙ counts ks h
     where
       counts : (xs : List Kept) → All (IsKept world depth table) xs
-          → expanded_count (Some (map looked_held held)) (map looked_held (filter_map held_of xs)) ≡ length (filter (is_unmatched held) xs)
+          → expanded_count (Some (map looked_held held)) (map looked_held (filter_map held_of xs)) ≡ length (filter (is_unmatched world.dialect held) xs)
       counts [] g = refl
       counts (met m ∷ xs) g = counts xs (All-tail (IsKept world depth table) (met m) xs g)
       counts (kept start before tree outcome ∷ xs) g =
-          step (list_any (is_same (looked_at tree outcome)) (map looked_held held)) (list_any (matches (numbered_scope before) tree) held)
+          step (list_any (is_same (looked_at tree outcome)) (map looked_held held)) (list_any (matches (numbered_scope world.dialect before) tree) held)
           (unmatched_one world depth table tells held all start before tree outcome (All-head (IsKept world depth table) (kept start before tree outcome) xs g))
           (counts xs (All-tail (IsKept world depth table) (kept start before tree outcome) xs g))
         where
           step : (a b : Bool) → a ≡ b
-              → length (filter (λ l. not (list_any (is_same l) (map looked_held held))) (map looked_held (filter_map held_of xs))) ≡ length (filter (is_unmatched held) xs)
+              → length (filter (λ l. not (list_any (is_same l) (map looked_held held))) (map looked_held (filter_map held_of xs))) ≡ length (filter (is_unmatched world.dialect held) xs)
               → length (cond (not a) (looked_at tree outcome ∷ filter (λ l. not (list_any (is_same l) (map looked_held held))) (map looked_held (filter_map held_of xs)))
               (filter (λ l. not (list_any (is_same l) (map looked_held held))) (map looked_held (filter_map held_of xs))))
-              ≡ length (cond (not b) (kept start before tree outcome ∷ filter (is_unmatched held) xs) (filter (is_unmatched held) xs))
+              ≡ length (cond (not b) (kept start before tree outcome ∷ filter (is_unmatched world.dialect held) xs) (filter (is_unmatched world.dialect held) xs))
           step true true e later = later
           step false false e later = ap suc later
           step true false e later = cc

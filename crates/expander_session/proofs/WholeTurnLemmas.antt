@@ -65,11 +65,11 @@ module _ (laws : TurnLaws) (grammar : Grammar) (edition : Edition) (dialect : Di
   pub taken : members (layers grammar edition dialect) depth f ≡ map present takes
   taken = members_are ∙ ap (map present) (sym takes_are)
 
-  pub counted : expanded_count (Some (map looked_held held)) (looked_of (members (layers grammar edition dialect) depth f)) ≡ length (filter (is_unmatched held) takes)
+  pub counted : expanded_count (Some (map looked_held held)) (looked_of (members (layers grammar edition dialect) depth f)) ≡ length (filter (is_unmatched dialect held) takes)
   counted =
       ap (λ (ms : List Member). expanded_count (Some (map looked_held held)) (looked_of ms)) members_are
       ∙ count_is laws.equal (world grammar edition dialect) depth table tell held turn.right news news_are
-      ∙ ap (λ (ks : List Kept). length (filter (is_unmatched held) ks)) (sym takes_are)
+      ∙ ap (λ (ks : List Kept). length (filter (is_unmatched dialect held) ks)) (sym takes_are)
 
   pub held_rightly : All (IsHeld (world grammar edition dialect) depth table) (filter_map held_of takes)
   held_rightly =

@@ -12,6 +12,10 @@ use Rattle.expander_scope.specs.OffsetTables.{place_at}
 use Rattle.expander_model.specs.declared.fault.Fault.{Fault}
 use Rattle.expander_model.specs.declared.fault.FaultKind.{FaultKind}
 use Rattle.expander_model.specs.declared.fault.FaultKind.TheVariants.{BrokenDefinition}
+use Rattle.expander_model.specs.Scoping.{is_out}
+use Rattle.expander_model.specs.declared.dialect.Dialect.{Dialect}
+use Rattle.expander_model.specs.declared.scope_rules.Standing.TheVariants.{Top}
+use Rattle.expander_scope.specs.Outcomes.{numbered_of_known}
 use Rattle.expander_scope.specs.declared.macro_def.MacroDef.{MacroDef}
 use Rattle.expander_scope.specs.declared.offsets.Offsets.{Offsets}
 
@@ -39,3 +43,9 @@ resolved_faults start starts faults = map (λ f. fault_at f.0 (resolved_by start
 abbrev pub told_if_broken : ℕ → MacroDef → List Fault
 told_if_broken start k = if is_some (rules_of k.rules).err
     then record { kind = BrokenDefinition; range = range_from start k.place } ∷ [] else []
+
+-- the same of a definition that may be left out: then none
+abbrev pub told_of : Dialect → ℕ → MacroDef → List Fault
+told_of dialect start k =
+    if is_out dialect.cfg Top (numbered_of_known k).definition.piece then []
+    else told_if_broken start k

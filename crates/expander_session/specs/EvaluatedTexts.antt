@@ -42,6 +42,6 @@ module _ (grammar : Grammar) (edition : Edition) (dialect : Dialect) (depth : �
         new.plains.items ≡ filter_map held_of (pieces_kept new)
     pub shows : ShowsMeaning
         (meaning_of (layers grammar edition dialect) (map present (pieces_kept new)))
-        (length (filter (is_unmatched (map
+        (length (filter (is_unmatched dialect (map
         (λ q. piece_of (world grammar edition dialect) depth (rc_value q)) old.plains.items))
         (pieces_kept new))) e

@@ -68,13 +68,13 @@ module _ (world : World Definition) (edition : Edition) (depth : ℕ) (old : Cac
     pub steps : HasOutput now.steps (flat_map output_of (map present done))
     pub faults : now.faults.items ≡ flat_map (member_faults layers) (map present done)
     pub expanded : now.expanded ≡ length
-        (filter (is_unmatched
+        (filter (is_unmatched world.dialect
         (map (λ q. piece_of world depth (rc_value q)) old.plains.items)) done)
 
   -- and these are the definitions in scope, nearest first
   pub record HasTaken (before : List Met) (trees : List Forest) (done : List Kept)
       (now : Evaluation) : Type 0 where
-    pub met : HasMet now.scope before
+    pub met : HasMet world.dialect now.scope before
     pub known : All (IsMet (numbered_by (numbers_in now.taken.numbers.by_tree))) before
     pub read : AreRead now.scope
     pub edition_is : now.scope.edition ≡ edition

@@ -11,13 +11,14 @@ use Rattle.expander_model.specs.EqualTrees.{same_forest}
 use Rattle.expander_scope.specs.Numbers.{AreEntries, Entry, Numbering, number_of, tree_of, with_trees}
 use Rattle.expander_model.specs.Pieces.{first_start, pieces, relative}
 use Rattle.expander_model.specs.Scoping.{expanded}
+use Rattle.expander_model.specs.declared.dialect.Dialect.{Dialect}
 use Rattle.expander_session.specs.Reuse.{HeldPiece, IsHeld, matches, reused_outcome}
 
 -- a plain piece for which no cached piece is valid
-abbrev pub is_unmatched : List HeldPiece → Kept → Bool
-is_unmatched held (kept start before tree outcome) =
-    not (list_any (matches (numbered_scope before) tree) held)
-is_unmatched held (met m) = false
+abbrev pub is_unmatched : Dialect → List HeldPiece → Kept → Bool
+is_unmatched dialect held (kept start before tree outcome) =
+    not (list_any (matches (numbered_scope dialect before) tree) held)
+is_unmatched dialect held (met m) = false
 
 module _ (world : World Definition) (depth : ℕ) (number_of : Forest → ℕ)
     (held : List HeldPiece) where
@@ -27,8 +28,8 @@ module _ (world : World Definition) (depth : ℕ) (number_of : Forest → ℕ)
   taken_of before piece None =
       let tree : Forest = relative piece in
       kept (first_start piece) before tree
-      (reused_outcome (find (matches (numbered_scope before) tree) held)
-      (expanded (numbered_world world) unnumbered (numbered_scope before) depth tree))
+      (reused_outcome (find (matches (numbered_scope world.dialect before) tree) held)
+      (expanded (numbered_world world) unnumbered (numbered_scope world.dialect before) depth tree))
 
   -- the pieces of a text in order: each with the first valid cached result, or else a new one
   abbrev pub taken_after : List Met → List Forest → List Kept
@@ -58,7 +59,7 @@ pub record IsPlain (world : World Definition) (depth : ℕ) (table : Forest → 
   pub from : StandFromFirst piece
   pub start : at ≡ first_start piece
   pub tree : t ≡ relative piece
-  pub outcome : o ≡ expanded (numbered_world world) unnumbered (numbered_scope before) depth t
+  pub outcome : o ≡ expanded (numbered_world world) unnumbered (numbered_scope world.dialect before) depth t
 
 -- a piece of a text, plain or a definition
 abbrev pub IsKept : World Definition → ℕ → (Forest → ℕ → Type 0) → Kept → Type 0

@@ -12,6 +12,11 @@ ghost use Rattle.expander_scope.specs.Interning.{known_in, numbers_in};
 ghost use Rattle.expander_model.specs.HashedTrees.{own_top, tree_hash};
 ghost use Rattle.expander_model.specs.Definitions.{definition_of};
 ghost use Rattle.expander_model.specs.Held.{IsMet, Met, Stands, first_place, numbered_scope};
+ghost use Rattle.expander_model.specs.Scoping.{is_out};
+ghost use Rattle.expander_model.specs.declared.scope_rules.Standing.TheVariants.{Top as AtTop};
+ghost use Rattle.expander_scope.specs.Editions.{IsRead};
+ghost use Rattle.expander_scope.specs.Outcomes.{numbered_of_known};
+ghost use Rattle.expander_session.specs.AbsoluteSpans.{told_of};
 ghost use Rattle.bridge.specs.RelativeSpans.{own_place};
 ghost use Rattle.expander_sources.specs.Imports.{IsImport, import_piece};
 ghost use Rattle.expander_session.specs.EvaluatedTexts.{kept_in};
@@ -57,6 +62,8 @@ use expander_model::dialect::Dialect;
 use expander_model::fault::Fault;
 use expander_model::hashed_tree::HashedTree;
 use expander_model::laws;
+use expander_model::left_out::is_out;
+use expander_model::scope_rules::Standing;
 use expander_reparse::piece::Piece;
 use expander_scope::definition_ids::{DefinitionIds, number};
 use expander_scope::expand::{Environment, expand_piece};
@@ -105,7 +112,7 @@ fn fresh_memo<G: FragmentGrammar>(
         AreNumbers given numbers →
         All (λ q. IsRight (world (G.answer env.now.grammar.now) env.now.scope.now.edition
         env.now.dialect.now) env.now.depth numbers (rc_value q)) taken.now.plains.items →
-        scope_in env.now.scope.now ≡ numbered_scope before →
+        scope_in env.now.scope.now ≡ numbered_scope env.now.dialect.now before →
         All (IsMet (numbered_by numbers)) before →
         IfOk result (λ q. Holds q.value (parts_of
         (expanded_under (G.answer env.now.grammar.now) env.now.scope.now env.now.dialect.now
@@ -154,7 +161,7 @@ pub(crate) fn evaluate_tree<G: FragmentGrammar>(
         ((t : Forest) (n : ℕ) → numbers_in memory.now.by_tree t ≡ Some n → numbers t ≡ Some n) →
         All (λ q. IsRight (world (G.answer env.now.grammar.now) env.now.scope.now.edition
         env.now.dialect.now) env.now.depth numbers (rc_value q)) taken.now.plains.items →
-        scope_in env.now.scope.now ≡ numbered_scope before →
+        scope_in env.now.scope.now ≡ numbered_scope env.now.dialect.now before →
         All (IsMet (numbered_by numbers)) before →
         IfOk result (λ r. Holds r.0.value (parts_of
         (expanded_under (G.answer env.now.grammar.now) env.now.scope.now env.now.dialect.now
@@ -274,7 +281,7 @@ fn nothing_yet(
         IsCache (world grammar edition dialect) depth edition memory.now →
         IsEvaluated (world grammar edition dialect) edition depth memory.now
         (layers grammar edition dialect) [] [] now.taken) }
-    ensures none { IfOk result (λ now. HasMet now.scope []) }
+    ensures none { IfOk result (λ now. (dialect : Dialect) → HasMet dialect now.scope []) }
     ensures edition { IfOk result (λ now. now.scope.edition ≡ edition) }
     ensures read { IfOk result (λ now. AreRead now.scope) }
     ensures lookup { IfOk result (λ now.
@@ -297,11 +304,57 @@ fn add_link(links: &mut Vec<MemoRef>, link: MemoRef) -> Result<(), AllocError>
     Ok(())
 }
 
-// Evaluates a definition that starts at `start`: gives it an id, adds its fault if it is invalid,
-// and adds it to the scope. `held` is the equal definition of the last text, if it is known.
-fn evaluate_definition(
-    alloc: Global,
-    memory: &Cache,
+// Whether conditional compilation leaves a definition of a text out.
+fn leaves_out(dialect: &Dialect, known: &MacroDef) -> Result<bool, AllocError>
+    ensures { IfOk result (λ out. out
+        ≡ is_out dialect.now.cfg AtTop (numbered_of_known known.now).definition.piece) }
+{
+    is_out(dialect, Standing::Top, &known.tree.iter())
+}
+
+// Adds the fault of a definition that starts at `start`, if it is invalid and not left out.
+fn tell(
+    dialect: &Dialect,
+    faults: &mut Vec<Fault>,
+    start: u32,
+    known: &MacroDef,
+) -> Result<(), AllocError>
+    ensures { OnOk result (faults.new.items
+        ≡ faults.old.items ++ told_of dialect.now start known.now) }
+{
+    if leaves_out(dialect, known)? {
+        return Ok(());
+    }
+    tell_if_broken(faults, start, known)
+}
+
+// Adds a definition that starts at `place`. Its name resolves to it if it is not left out.
+fn enter_scope(
+    dialect: &Dialect,
+    scope: &mut Scope,
+    place: Place,
+    known: Rc<MacroDef>,
+) -> Result<(), AllocError>
+    requires rules { IsRead scope.old.edition known.value }
+    requires read { AreRead scope.old }
+    ensures met { (before : List Met) → HasMet dialect.now scope.old before →
+        OnOk result (HasMet dialect.now scope.new
+        (record { place = place; numbered = numbered_of_known known.value } ∷ before)) }
+    ensures edition { OnOk result (scope.new.edition ≡ scope.old.edition) }
+    ensures read { OnOk result (AreRead scope.new) }
+{
+    if leaves_out(dialect, known.as_ref())? {
+        scope.pass(place, known.as_ref())
+    } else {
+        scope.define(place, known)
+    }
+}
+
+// Evaluates a definition that starts at `start`: gives it an id, and if it is not left out adds its
+// fault, if it is invalid, and adds it to the scope. `held` is the equal definition of the last
+// text, if it is known.
+fn evaluate_definition<G: FragmentGrammar>(
+    context: &EvaluationContext<'_, G>,
     now: &mut Evaluation,
     start: u32,
     tree: Rc<HashedTree>,
@@ -309,14 +362,14 @@ fn evaluate_definition(
 ) -> Result<(), Refusal>
     requires definition { is_some (definition_of tree.value.inner) ≡ true }
     requires top { tree.value.delimiter ≡ text_top }
-    requires held { IfSome held (λ k. known_in memory.now.by_tree tree.value ≡ Some k.now.value) }
-    requires can { CanDefine memory.now now.old }
-    ensures taken { (grammar : Grammar) (dialect : Dialect) (depth : ℕ) (piece : Forest) →
-        LooksAtNoPlace (world grammar now.old.scope.edition dialect) →
-        HaveNumbers (numbers_in memory.now.by_tree) (trees_of memory.now) →
+    requires held { IfSome held (λ k. known_in context.now.memory.now.by_tree tree.value ≡ Some k.now.value) }
+    requires can { CanDefine context.now.memory.now now.old }
+    ensures taken { (grammar : Grammar) (depth : ℕ) (piece : Forest) →
+        LooksAtNoPlace (world grammar now.old.scope.edition context.now.dialect.now) →
+        HaveNumbers (numbers_in context.now.memory.now.by_tree) (trees_of context.now.memory.now) →
         own_place start ≡ first_place piece → tree.value ≡ own_top (relative piece) →
-        OnOk result (Evaluates grammar now.old.scope.edition dialect depth memory.now piece
-        now.old now.new) }
+        OnOk result (Evaluates grammar now.old.scope.edition context.now.dialect.now depth
+        context.now.memory.now piece now.old now.new) }
     ensures links { (trees : List Top) → AreLinks now.old.taken trees →
         OnOk result (AreLinks now.new.taken (trees ++ tree.value ∷ [])) }
     ensures grows { OnOk result (Grows now.old.taken now.new.taken) }
@@ -324,12 +377,18 @@ fn evaluate_definition(
     ensures lookup { OnOk result (now.new.lookup ≡ now.old.lookup) }
     ensures expanded { OnOk result (now.new.taken.expanded ≡ now.old.taken.expanded) }
     ensures cause { (trees : List Forest) →
-        HaveNumbers (numbers_in memory.now.by_tree) (trees_of memory.now) →
-        HasNumbered memory.now.given memory.now.by_tree (trees_of memory.now) trees
+        HaveNumbers (numbers_in context.now.memory.now.by_tree) (trees_of context.now.memory.now) →
+        HasNumbered context.now.memory.now.given context.now.memory.now.by_tree (trees_of context.now.memory.now) trees
         now.old.taken.numbers → result ≡ Err Refusal.Numbers →
-        2 ^ 32 ≤ memory.now.given + needed (trees_of memory.now) (trees ++ tree.value.inner ∷ []) }
+        2 ^ 32 ≤ context.now.memory.now.given + needed (trees_of context.now.memory.now) (trees ++ tree.value.inner ∷ []) }
     ensures tokens { result ≢ Err Refusal.Tokens }
 {
+    let EvaluationContext {
+        alloc,
+        dialect,
+        memory,
+        ..
+    } = *context;
     let edition = now.scope.edition;
     let index = now.taken.numbers.definitions.len();
     let known = number(
@@ -340,42 +399,47 @@ fn evaluate_definition(
         tree,
         held,
     )?;
-    tell_if_broken(&mut now.taken.faults, start, known.as_ref())?;
-    now.scope.define(Place { text: 0, start }, known)?;
+    tell(dialect, &mut now.taken.faults, start, known.as_ref())?;
+    enter_scope(dialect, &mut now.scope, Place { text: 0, start }, known)?;
     add_link(&mut now.taken.links, MemoRef::Definition(index))?;
     Ok(())
 }
 
-// Gives a definition of another text its id, and adds it to the scope. If it is invalid, that is no
-// fault of the text that is expanded.
-fn evaluate_import(
-    alloc: Global,
-    memory: &Cache,
+// Gives a definition of another text its id, and adds it to the scope if it is not left out. If it
+// is invalid, that is no fault of the text that is expanded.
+fn evaluate_import<G: FragmentGrammar>(
+    context: &EvaluationContext<'_, G>,
     now: &mut Evaluation,
     import: &Import,
 ) -> Result<(), Refusal>
     requires import { IsImport import.now }
-    requires have { HaveNumbers (numbers_in memory.now.by_tree) (trees_of memory.now) }
-    requires can { CanDefine memory.now now.old }
-    ensures taken { (grammar : Grammar) (dialect : Dialect) (depth : ℕ) →
-        OnOk result (Imports grammar now.old.scope.edition dialect depth memory.now
-        (import_piece import.now) now.old now.new) }
+    requires have { HaveNumbers (numbers_in context.now.memory.now.by_tree) (trees_of context.now.memory.now) }
+    requires can { CanDefine context.now.memory.now now.old }
+    ensures taken { (grammar : Grammar) (depth : ℕ) →
+        OnOk result (Imports grammar now.old.scope.edition context.now.dialect.now depth
+        context.now.memory.now (import_piece import.now) now.old now.new) }
     ensures links { AreLinks now.old.taken [] → OnOk result (AreLinks now.new.taken []) }
     ensures grows { OnOk result (Grows now.old.taken now.new.taken) }
     ensures edition { OnOk result (now.new.scope.edition ≡ now.old.scope.edition) }
     ensures lookup { OnOk result (now.new.lookup ≡ now.old.lookup) }
     ensures expanded { OnOk result (now.new.taken.expanded ≡ now.old.taken.expanded) }
-    ensures cause { (trees : List Forest) → HasNumbered memory.now.given memory.now.by_tree
-        (trees_of memory.now) trees now.old.taken.numbers → result ≡ Err Refusal.Numbers →
-        2 ^ 32 ≤ memory.now.given + needed (trees_of memory.now)
+    ensures cause { (trees : List Forest) → HasNumbered context.now.memory.now.given context.now.memory.now.by_tree
+        (trees_of context.now.memory.now) trees now.old.taken.numbers → result ≡ Err Refusal.Numbers →
+        2 ^ 32 ≤ context.now.memory.now.given + needed (trees_of context.now.memory.now)
         (trees ++ definition_trees (import_piece import.now ∷ [])) }
     ensures tokens { result ≢ Err Refusal.Tokens }
 {
+    let EvaluationContext {
+        alloc,
+        dialect,
+        memory,
+        ..
+    } = *context;
     let edition = now.scope.edition;
     let tree = import.tree.clone()?;
     let numbers = &mut now.taken.numbers;
     let known = number(alloc, edition, &memory.by_tree, numbers, tree, None)?;
-    now.scope.define(import.place, known)?;
+    enter_scope(dialect, &mut now.scope, import.place, known)?;
     Ok(())
 }
 
@@ -402,7 +466,7 @@ fn evaluate_imports<G: FragmentGrammar>(
     ensures tokens { result ≢ Err Refusal.Tokens }
 {
     for import in imports_of(context.prelude) {
-        evaluate_import(context.alloc, context.memory, now, import)?;
+        evaluate_import(context, now, import)?;
     }
     Ok(())
 }
@@ -636,13 +700,13 @@ fn evaluate_piece<G: FragmentGrammar>(
         2 ^ 32 ≤ memory.given + needed (trees_of memory) (trees
         ++ definition_trees (piece_at own.now ∷ [])) }
 {
-    let EvaluationContext { alloc, memory, .. } = *context;
+    let memory = context.memory;
     reserve(&mut now.taken.steps, memory.look_ahead(own))?;
     let tree = own.tree.get();
     let link = memory.link_of(own);
     if memory.is_definition(own, link) {
         let held = memory.definition_at(link);
-        return evaluate_definition(alloc, memory, now, own.start, tree.clone()?, held);
+        return evaluate_definition(context, now, own.start, tree.clone()?, held);
     }
     evaluate_plain(context, now, own.start, tree, plain_at(link))?;
     Ok(())

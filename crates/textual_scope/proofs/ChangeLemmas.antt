@@ -36,7 +36,7 @@ use Rattle.expander_model.specs.declared.scope_rules.ScopeRules.TheVariants.{Top
 use Rattle.textual_scope.specs.ScopeChanges.{around_with, scoped_with}
 use Rattle.expander_model.specs.declared.scope_rules.Standing.TheVariants.{Top, Enclosed, Items, Argument}
 use Rattle.expander_model.specs.declared.scope_rules.Standing.{Standing}
-use Rattle.expander_model.specs.Scoping.{Around, Scoped, Search, PieceKind, out_piece, definition_piece, plain_piece, definition_in, is_out, kind_of, kind_in, is_left_out, in_group, behind, only, and_next, in_brackets, defined, fitted, at_level, unbroken, looked_up, at_key, at_call, kept_call, search_leaf, found_at, is_expanded, is_alone_in, takes_end, search_trees, search_piece, search_pieces, search_list, scoped}
+use Rattle.expander_model.specs.Scoping.{Around, Scoped, Search, PieceKind, out_piece, definition_piece, plain_piece, definition_in, is_found, is_out, kind_of, kind_in, is_left_out, in_group, behind, only, and_next, in_brackets, defined, fitted, at_level, unbroken, looked_up, at_key, at_call, kept_call, search_leaf, found_at, is_expanded, is_alone_in, takes_end, search_trees, search_piece, search_pieces, search_list, scoped}
 use Rattle.textual_scope.proofs.MarkChangeLemmas.{ident_with, punct_with, path_with, marked_with, marked-with, in_front-with, unmarked-with, cut-with, outer-with, site_with, followed-with, just-with, walk-with, grouped-with, stays-with}
 use Rattle.textual_scope.proofs.ResultLemmas.{scoped_same}
 use Rattle.textual_scope.proofs.StateLemmas.{after_leaf-with, is_dropped-with}
@@ -54,12 +54,16 @@ definition_in-with f TopLevel g = refl
 definition_in-with f Rust g = definition_of-with f g
 
 -- what is left out is left out at other spans too
-is_out-with : (f : Span → Span) (cfg : Option CfgOptions) (standing : Standing) (g : Forest) → is_out cfg standing (map_spans f g) ≡ is_out cfg standing g
+pub is_out-with : (f : Span → Span) (cfg : Option CfgOptions) (standing : Standing) (g : Forest) → is_out cfg standing (map_spans f g) ≡ is_out cfg standing g
 is_out-with f None standing g = refl
 is_out-with f (Some options) Argument g = refl
 is_out-with f (Some options) Top g = left_out-with (options_of options) string_text string_text-with f true g
 is_out-with f (Some options) Enclosed g = left_out-with (options_of options) string_text string_text-with f false g
 is_out-with f (Some options) Items g = left_out-with (options_of options) string_text string_text-with f true g
+
+-- a definition is found at other spans too
+pub is_found-with : (f : Span → Span) (dialect : Dialect) (d : Definition) (name : List ℕ) → is_found dialect (definition_with f d) name ≡ is_found dialect d name
+is_found-with f dialect d name = ap (λ b. if b then false else same_text d.name.sym name) (is_out-with f dialect.cfg Top d.piece)
 
 -- what a piece is, at other spans
 kind_with : (Span → Span) → PieceKind → PieceKind

@@ -18,7 +18,7 @@ use Rattle.textual_scope.specs.Keywords.{HasNoKeyword, AddsNoKeyword, NestsNone}
 use Rattle.textual_scope.specs.TopLevelMeaning.{top_member, top_members, top_over, top_meaning}
 use Rattle.expander_model.specs.declared.scope_rules.Standing.TheVariants.{Top}
 use Rattle.expander_model.specs.declared.scope_rules.Standing.{Standing}
-use Rattle.expander_model.specs.Scoping.{without_locals, Scoped, only, scoped, expanded}
+use Rattle.expander_model.specs.Scoping.{without_locals, Scoped, found_in, is_out, only, scoped, expanded}
 use Rattle.textual_scope.proofs.KeywordLemmas.{plain_pieces, none_inside}
 use Rattle.textual_scope.proofs.MarkLemmas.{AllInside}
 use Rattle.textual_scope.proofs.PlainLemmas.{ArePlain, HasNone, as_expansion}
@@ -124,7 +124,17 @@ nearest_has P (x ∷ before) all key d e = go (same_text x.name.sym key) e (near
     go true h more = let is : x ≡ d = cc in subst P is (All-head P x before all)
     go false h more = more h
 
+-- where nothing is left out, the nearest is found
+found_all : (dialect : Dialect) → dialect.cfg ≡ None → (before : List Definition) (name : List ℕ) → found_in dialect before name ≡ nearest before name
+found_all dialect whole [] name = refl
+found_all dialect whole (d ∷ before) name =
+    ap (λ c. if (if is_out c Top d.piece then false else same_text d.name.sym name) then Some d else found_in dialect before name) whole
+    ∙ ap (λ o. if same_text d.name.sym name then Some d else o) (found_all dialect whole before name)
+
 module _ (layers : Layers) (depth : ℕ) where
+  same_found : layers.world.dialect.cfg ≡ None → (before : List Definition) → found_in layers.world.dialect before ≡ nearest before
+  same_found whole before = λ i name. found_all layers.world.dialect whole before name i
+
   top_level_members : layers.world.dialect ≡ dialects.top_level → (before : List Definition) (ps : List Forest) → members_after layers depth before ps ≡ top_members layers depth before ps
   top_level_members is before [] = refl
   top_level_members is before (p ∷ ps) =
@@ -133,7 +143,9 @@ module _ (layers : Layers) (depth : ℕ) where
     where
       go : (d : Option Definition) → member layers depth before p d ≡ top_member layers depth before p d
       go (Some d) = refl
-      go None = ap (plain p) (top_expanded layers.world (λ d. d) (nearest before) is depth p)
+      go None =
+          ap (λ (s : List ℕ → Option Definition). plain p (expanded layers.world (λ d. d) s depth p)) (same_found (ap (λ (d : Dialect). d.cfg) is) before)
+          ∙ ap (plain p) (top_expanded layers.world (λ d. d) (nearest before) is depth p)
 
   abbrev Nests : Forest → Type 0
   Nests p = NestsNone layers.world p (definition_of p)
@@ -148,7 +160,9 @@ module _ (layers : Layers) (depth : ℕ) where
     where
       here : (d : Option Definition) → NestsNone layers.world p d → member layers depth before p d ≡ top_member layers depth before p d
       here (Some d) h = refl
-      here None h = ap (plain p) (wordless_expanded layers.world (λ d. d) (nearest before) (nearest_has (AddsNoKeyword layers.world) before adds) keeps whole depth p h)
+      here None h =
+          ap (λ (s : List ℕ → Option Definition). plain p (expanded layers.world (λ d. d) s depth p)) (same_found whole before)
+          ∙ ap (plain p) (wordless_expanded layers.world (λ d. d) (nearest before) (nearest_has (AddsNoKeyword layers.world) before adds) keeps whole depth p h)
 
       more : (d : Option Definition) → NestsNone layers.world p d → All (AddsNoKeyword layers.world) (with_definition d before)
       more None h = adds

@@ -37,7 +37,7 @@ loop-import-preserved g c =
           (one_more A c.args.edition c.args.context.now.dialect.now c.args.context.now.depth c.args.context.now.memory.now done piece c.loop-import.now c.evaluate_import.new.now
           c.loop-import.invariant.has c.in_ok-evaluate_import.ensures.grows
           (subst (λ (e : Edition). Imports A e c.args.context.now.dialect.now c.args.context.now.depth c.args.context.now.memory.now piece c.loop-import.now c.evaluate_import.new.now)
-          c.loop-import.invariant.has.edition_is (c.in_ok-evaluate_import.ensures.taken A c.args.context.now.dialect.now c.args.context.now.depth)));
+          c.loop-import.invariant.has.edition_is (c.in_ok-evaluate_import.ensures.taken A c.args.context.now.depth)));
       links = λ h. c.in_ok-evaluate_import.ensures.links (c.loop-import.invariant.links h);
       lookup = c.in_ok-evaluate_import.ensures.lookup ∙ c.loop-import.invariant.lookup;
       expanded = c.in_ok-evaluate_import.ensures.expanded ∙ c.loop-import.invariant.expanded;

@@ -11,13 +11,13 @@ use Rattle.expander_scope.proofs.scope.Scope.define.Goals as goal
 
 pub returns-clause-met : goal.returns-clause-met
 unfolding scope_in
-returns-clause-met c = λ before h.
+returns-clause-met c = λ dialect before inside h.
     let counted : c.len-index.result ≡ length c.args.self.now.known.items = omega arith in
     let name_is : c.in-Ok.name ≡ (numbered_of_known c.args.known.value).definition.name.sym = search rules in
     on_ok_weaker c.insert-2.result (λ named. record {
-      finds = scope_more (λ k. numbered_of_known (rc_value k)) c.args.self.now.known.items c.push.new.self.items c.args.known c.len-index.result c.args.place c.in-Ok.name
+      finds = scope_more (λ k. numbered_of_known (rc_value k)) dialect c.args.self.now.known.items c.push.new.self.items c.args.known c.len-index.result c.args.place c.in-Ok.name
           (λ other. index_of c.args.self.now.names other) (λ other. index_of c.insert-2.new.self other) before c.args.self.now.in_range counted c.in_ok-push.ensures.items
-          named name_is h.finds;
+          named name_is inside h.finds;
       starts = place_more (record { place = c.args.place; numbered = numbered_of_known c.args.known.value }) before (place_at c.args.self.now.starts) _
           (rw c.as_ref-2.ensures at c.in_ok-insert.ensures) h.starts;
     }) c.insert-2.ensures.ok
