@@ -163,8 +163,8 @@ module _ (text : List ℕ) (f : Forest) (p : IsPrintedOf text f) where
   abbrev here : List PlacedStep
   here = placed None (walk f)
 
-  output_is : (given : Layers) (depth : ℕ) → flat_map output_of (members given depth f) ≡ here
-  output_is given depth = wordless_output given depth (separated f) (quiet_separated f p.quiet) ∙ ap (λ g. placed None (walk g)) p.separate
+  output_is : (given : Layers) → given.world.dialect.cfg ≡ None → (depth : ℕ) → flat_map output_of (members given depth f) ≡ here
+  output_is given keeps depth = wordless_output given depth (separated f) keeps (quiet_separated f p.quiet) ∙ ap (λ g. placed None (walk g)) p.separate
 
   left_out_here : left_out spelling_before (visible here) ≡ []
   left_out_here =
@@ -174,11 +174,12 @@ module _ (text : List ℕ) (f : Forest) (p : IsPrintedOf text f) where
   text_here : text_of (tokens_in here) ≡ text
   text_here = sym (text_is here) ∙ ap (λ ss. (print_of ss).text) (steps_of-placed None (walk f)) ∙ p.text_is
 
-  printed_itself : (grammar : Grammar) (edition : Edition) (dialect : Dialect) (depth : ℕ) → PrintsItself text (meaning_from (layers grammar edition dialect) depth (Ok f))
-  printed_itself grammar edition dialect depth = (
-    ap (λ ss. text_of (tokens_in ss)) (output_is (layers grammar edition dialect) depth) ∙ text_here,
-    quiet_text (layers grammar edition dialect) depth f p.quiet
-        (ap (λ ss. left_out spelling_before (visible ss)) (output_is (layers grammar edition dialect) depth) ∙ left_out_here),
+  printed_itself : (grammar : Grammar) (edition : Edition) (dialect : Dialect) → dialect.cfg ≡ None → (depth : ℕ)
+      → PrintsItself text (meaning_from (layers grammar edition dialect) depth (Ok f))
+  printed_itself grammar edition dialect keeps depth = (
+    ap (λ ss. text_of (tokens_in ss)) (output_is (layers grammar edition dialect) keeps depth) ∙ text_here,
+    quiet_text (layers grammar edition dialect) depth f keeps p.quiet
+        (ap (λ ss. left_out spelling_before (visible ss)) (output_is (layers grammar edition dialect) keeps depth) ∙ left_out_here),
   )
 
   pub fixed_point : IsFixedPoint text
@@ -186,8 +187,8 @@ module _ (text : List ℕ) (f : Forest) (p : IsPrintedOf text f) where
     trees = f;
     read = p.read;
     plain = all_plain;
-    again = λ grammar edition dialect depth.
-        subst (λ r. PrintsItself text (meaning_from (layers grammar edition dialect) depth r)) (sym p.read) (printed_itself grammar edition dialect depth);
+    again = λ grammar edition dialect keeps depth.
+        subst (λ r. PrintsItself text (meaning_from (layers grammar edition dialect) depth r)) (sym p.read) (printed_itself grammar edition dialect keeps depth);
   }
 
 -- ---- what is printed without a fault

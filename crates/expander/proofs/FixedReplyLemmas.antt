@@ -32,9 +32,9 @@ pub fixed_reply : ((grammar : Grammar) (edition : Edition) (dialect : Dialect) (
     meaning_in (layers grammar edition dialect) depth initial text ≡ Ok m → m.faults ≡ [] → IsFixedPoint m.text)
     → (grammar : Grammar) (edition : Edition) (dialect : Dialect) (depth : ℕ) (initial : List Definition) (text : List ℕ) (earlier : Option (List Looked)) (e : Expanded)
     → IsReplyIn (layers grammar edition dialect) depth initial text earlier (Read e) → e.faults ≡ []
-    → (others : Grammar) (later : Edition) (rules : Dialect) (levels : ℕ) (held : Option (List Looked)) (reply : Reply)
+    → (others : Grammar) (later : Edition) (rules : Dialect) → rules.cfg ≡ None → (levels : ℕ) (held : Option (List Looked)) (reply : Reply)
     → IsReplyTo (layers others later rules) levels e.printed held reply → RepliesWith e.printed reply
-fixed_reply fixed grammar edition dialect depth initial text earlier e h none others later rules levels held reply answers =
+fixed_reply fixed grammar edition dialect depth initial text earlier e h none others later rules keeps levels held reply answers =
     let point : IsFixedPoint e.printed =
     printed_fixed (meaning_in (layers grammar edition dialect) depth initial text) e earlier (fixed grammar edition dialect depth initial text) h none e.printed refl in
-    replied e.printed (meaning (layers others later rules) levels e.printed) reply held (point.again others later rules levels) answers
+    replied e.printed (meaning (layers others later rules) levels e.printed) reply held (point.again others later rules keeps levels) answers

@@ -19,7 +19,7 @@ use Rattle.expander_model.specs.Printing.{steps_of}
 use Rattle.expander_model.specs.declared.begun.Begun.{Begun}
 use Rattle.expander_model.specs.declared.begun.Begun.TheVariants.{Nothing}
 use Rattle.tt_data.specs.declared.leaf.Leaf.{Leaf}
-use Rattle.expander_model.specs.Scoping.{Around, Scoped, Search, definition_in, is_left_out, in_group, behind, without_locals, and_next, in_brackets, defined, fitted, at_level, unbroken, looked_up, at_key, at_call, kept_call, search_leaf, takes_end, search_trees, search_piece, search_pieces, search_list, scoped}
+use Rattle.expander_model.specs.Scoping.{Around, Scoped, Search, PieceKind, out_piece, definition_piece, plain_piece, found_in, kind_in, is_left_out, in_group, behind, without_locals, and_next, in_brackets, defined, fitted, at_level, unbroken, looked_up, at_key, at_call, kept_call, search_leaf, takes_end, search_trees, search_piece, search_pieces, search_list, scoped}
 use Rattle.expander_model.specs.declared.fault.FaultKind.TheVariants.{BrokenDefinition}
 use Rattle.expander_model.specs.declared.dialect.Dialect.{Dialect}
 use Rattle.expander_model.specs.declared.scope_rules.Standing.TheVariants.{Top, Argument}
@@ -143,15 +143,16 @@ module _ {D : Type 0} (dialect : Dialect) (world : World D) (local : Definition 
         walked_next (at_call dialect world local scope deeper around path name site kept) (λ here. search_trees dialect world local scope search deeper behind_it here rest)
         around (walked_call path name deeper below around site kept (walked_kept around path name bang d (unmarked a))) (λ here. walked_search behind_it here rest)
 
-    walked_part : (around : Around) (p : Forest) (d : Option Definition) → IsWalked (search_piece dialect world local scope search deeper around p d)
-    walked_part around p (Some d) = walked_defined around d
-    walked_part around p None = walked_search Nothing around (marked p)
+    walked_part : (around : Around) (p : Forest) (k : PieceKind) → IsWalked (search_piece dialect world local scope search deeper around p k)
+    walked_part around p out_piece = walked_trees around.outer empty
+    walked_part around p (definition_piece d) = walked_defined around d
+    walked_part around p plain_piece = walked_search Nothing around (marked p)
 
     walked_parts : (around : Around) (ps : List Forest) → IsWalked (search_pieces dialect world local scope search deeper around ps)
     walked_parts around [] = walked_trees around.outer empty
     walked_parts around (p ∷ ps) =
-        walked_next (search_piece dialect world local scope search deeper around p (definition_in dialect.scope p)) (λ here. search_pieces dialect world local scope search deeper here ps)
-        around (walked_part around p (definition_in dialect.scope p)) (λ here. walked_parts here ps)
+        walked_next (search_piece dialect world local scope search deeper around p (kind_in dialect around.standing p)) (λ here. search_pieces dialect world local scope search deeper here ps)
+        around (walked_part around p (kind_in dialect around.standing p)) (λ here. walked_parts here ps)
 
   walked_list : (deeper : Option (Search D)) → WalksDeeper deeper → (n : ℕ) → WalksBy (search_list dialect world local scope deeper n)
   walked_list deeper below zero around f = walked_trees around.outer empty
@@ -167,7 +168,7 @@ module _ {D : Type 0} (dialect : Dialect) (world : World D) (local : Definition 
 module _ (layers : Layers) (depth : ℕ) where
   walked_member : (before : List Definition) (piece : Forest) (d : Option Definition) → AreWalked (output_of (member layers depth before piece d))
   walked_member before piece None =
-      walked_scoped layers.world.dialect layers.world (λ d. d) (nearest before) depth (without_locals Top None) piece
+      walked_scoped layers.world.dialect layers.world (λ d. d) (found_in layers.world.dialect before) depth (without_locals Top None) piece
   walked_member before piece (Some d) = walked_trees None empty
 
   pub walked_members : (before : List Definition) (ps : List Forest) → AreWalked (flat_map output_of (members_after layers depth before ps))

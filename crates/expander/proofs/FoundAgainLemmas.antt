@@ -14,10 +14,10 @@ use Rattle.expander_session.specs.Agreement.{FoundIn}
 use Rattle.expander_model.specs.declared.dialect.Dialect.{Dialect}
 use Rattle.expander_model.specs.Changes.{find_with, outcome_with}
 use Rattle.expander_session.specs.Count.{Looked, expanded_count, found_piece, is_same, looked_of, same_found}
-use Rattle.expander_model.specs.Definitions.{Definition, definition_of, nearest}
+use Rattle.expander_model.specs.Definitions.{Definition, definition_of}
 use Rattle.expander_session.specs.Expanded.{Expanded}
 use Rattle.expander_model.specs.Expansion.{World, Outcome}
-use Rattle.expander_model.specs.Scoping.{expanded}
+use Rattle.expander_model.specs.Scoping.{expanded, found_in}
 use Rattle.expander_model.specs.Held.{HasNumber, IsNumbered, Known, Met, Numbered, StandFromFirst, Stands, Tells, first_place, kept_after, kept_of, mets_after, nearest_met, numbered_scope, numbered_world, present_definition, resolve, resolve_definition, unnumbered}
 use Rattle.expander_model.specs.DefinitionTrees.{definition_trees}
 use Rattle.expander_session.specs.Laws.{FindsAsBefore, IsFoundAgain}
@@ -92,7 +92,7 @@ module _ (laws : TurnLaws) (grammar : Grammar) (edition : Edition) (dialect : Di
   -- the count sees of a plain piece what is held of it
   one_looked : (before : List Met) → All (StandsInText table) before → (p : Forest) → IsPiece table number p → definition_of (relative p) ≡ None
       → looked_of (members_after here depth (map present_definition before) (p ∷ []))
-      ≡ looked_at (relative p) (expanded (numbered_world w) unnumbered (numbered_scope before) depth (relative p)) ∷ []
+      ≡ looked_at (relative p) (expanded (numbered_world w) unnumbered (numbered_scope w.dialect before) depth (relative p)) ∷ []
   one_looked before met p is plain =
       let stand : All StandFromFirst (p ∷ []) = All-cons StandFromFirst p [] is.from (All-nil StandFromFirst) in
       let numbered : All (HasNumber table number) (p ∷ []) = All-cons (HasNumber table number) p [] is.numbered (All-nil (HasNumber table number)) in
@@ -112,52 +112,52 @@ module _ (laws : TurnLaws) (grammar : Grammar) (edition : Edition) (dialect : Di
     piece_in d = d.definition.piece
 
     -- a name that was found here
-    again : (start : ℕ) (x : List ℕ × Option Numbered) → numbered_scope before x.0 ≡ x.1 → FoundIs (IsNumbered table) x
-        → IsFoundAgain (nearest (map present_definition now)) (find_with (resolve_definition start before) x) → same_number (numbered_scope now x.0) x.1 ≡ true
+    again : (start : ℕ) (x : List ℕ × Option Numbered) → numbered_scope w.dialect before x.0 ≡ x.1 → FoundIs (IsNumbered table) x
+        → IsFoundAgain (found_in w.dialect (map present_definition now)) (find_with (resolve_definition start before) x) → same_number (numbered_scope w.dialect now x.0) x.1 ≡ true
     again start x found numbered same =
         let old : found_piece (option_map (resolve_definition start before) x.1) ≡ option_map piece_in x.1 =
         ap (λ (o : Option Numbered). found_piece (option_map (resolve_definition start before) o)) (sym found)
-        ∙ found_seen laws.equal table tell start before met x.0 (nearest_met before x.0) refl
+        ∙ found_seen laws.equal w.dialect table tell start before met x.0 (nearest_met w.dialect before x.0) refl
         ∙ ap (option_map piece_in) found in
-        let new : found_piece (nearest (map present_definition now) x.0) ≡ option_map piece_in (numbered_scope now x.0) =
-        ap found_piece (present_scope table tell 0 now (mets table now met_now) x.0)
-        ∙ found_seen laws.equal table tell 0 now met_now x.0 (nearest_met now x.0) refl in
-        number_by_tree laws.equal table tell x.0 x.1 (numbered_scope now x.0) numbered (met_scope laws.equal table now (mets table now met_now) x.0)
+        let new : found_piece (found_in w.dialect (map present_definition now) x.0) ≡ option_map piece_in (numbered_scope w.dialect now x.0) =
+        ap found_piece (present_scope w.dialect table tell 0 now (mets table now met_now) x.0)
+        ∙ found_seen laws.equal w.dialect table tell 0 now met_now x.0 (nearest_met w.dialect now x.0) refl in
+        number_by_tree laws.equal table tell x.0 x.1 (numbered_scope w.dialect now x.0) numbered (met_scope laws.equal w.dialect table now (mets table now met_now) x.0)
         (subst (λ (o : Option Forest). same_found (option_map piece_in x.1) o ≡ true) (sym old ∙ sym same ∙ new) (same_found-same laws.equal (option_map piece_in x.1)))
 
-    agrees_now : (start : ℕ) (finds : List (List ℕ × Option Numbered)) → FoundIn (numbered_scope before) finds → All (FoundIs (IsNumbered table)) finds
-        → FindsAsBefore (nearest (map present_definition now)) (map (find_with (resolve_definition start before)) finds)
-        → agrees (numbered_scope now) finds ≡ true
+    agrees_now : (start : ℕ) (finds : List (List ℕ × Option Numbered)) → FoundIn (numbered_scope w.dialect before) finds → All (FoundIs (IsNumbered table)) finds
+        → FindsAsBefore (found_in w.dialect (map present_definition now)) (map (find_with (resolve_definition start before)) finds)
+        → agrees (numbered_scope w.dialect now) finds ≡ true
     agrees_now start [] f g h = refl
     agrees_now start (x ∷ finds) f g h =
         let find : List ℕ × Option Definition = find_with (resolve_definition start before) x in
         let finds_there : List (List ℕ × Option Definition) = map (find_with (resolve_definition start before)) finds in
         and_from _ _
-        (again start x f.0 (All-head (FoundIs (IsNumbered table)) x finds g) (All-head (IsFoundAgain (nearest (map present_definition now))) find finds_there h))
-        (agrees_now start finds f.1 (All-tail (FoundIs (IsNumbered table)) x finds g) (All-tail (IsFoundAgain (nearest (map present_definition now))) find finds_there h))
+        (again start x f.0 (All-head (FoundIs (IsNumbered table)) x finds g) (All-head (IsFoundAgain (found_in w.dialect (map present_definition now))) find finds_there h))
+        (agrees_now start finds f.1 (All-tail (FoundIs (IsNumbered table)) x finds g) (All-tail (IsFoundAgain (found_in w.dialect (map present_definition now))) find finds_there h))
 
     -- a plain piece with the tree of an earlier one
     same_looked_now : (p q : Forest) → StandFromFirst p → relative p ≡ relative q
-        → FindsAsBefore (nearest (map present_definition now)) (expanded w (λ d. d) (nearest (map present_definition before)) depth p).finds
-        → is_same (looked_at (relative q) (expanded (numbered_world w) unnumbered (numbered_scope now) depth (relative q)))
-        (looked_at (relative p) (expanded (numbered_world w) unnumbered (numbered_scope before) depth (relative p))) ≡ true
+        → FindsAsBefore (found_in w.dialect (map present_definition now)) (expanded w (λ d. d) (found_in w.dialect (map present_definition before)) depth p).finds
+        → is_same (looked_at (relative q) (expanded (numbered_world w) unnumbered (numbered_scope w.dialect now) depth (relative q)))
+        (looked_at (relative p) (expanded (numbered_world w) unnumbered (numbered_scope w.dialect before) depth (relative p))) ≡ true
     same_looked_now p q from same finds =
         let start : ℕ = first_start p in
-        let was : Outcome Numbered = expanded (numbered_world w) unnumbered (numbered_scope before) depth (relative p) in
-        let scope = met_scope laws.equal table before (mets table before met) in
-        let there : expanded w (λ d. d) (nearest (map present_definition before)) depth p ≡ outcome_with (resolve start before) (resolve_definition start before) was =
-        ap (expanded w (λ d. d) (nearest (map present_definition before)) depth) (sym (resolved_piece start before p from))
+        let was : Outcome Numbered = expanded (numbered_world w) unnumbered (numbered_scope w.dialect before) depth (relative p) in
+        let scope = met_scope laws.equal w.dialect table before (mets table before met) in
+        let there : expanded w (λ d. d) (found_in w.dialect (map present_definition before)) depth p ≡ outcome_with (resolve start before) (resolve_definition start before) was =
+        ap (expanded w (λ d. d) (found_in w.dialect (map present_definition before)) depth) (sym (resolved_piece start before p from))
         ∙ resolved_expansion w (world_at_other_places laws.rules grammar edition dialect) table tell start before (mets table before met) depth (relative p) in
-        let held : IsHeld w depth table (record { tree = relative p; outcome = was }) = fresh_is_held laws.equal w depth table (numbered_scope before) scope (relative p) in
-        let found : FoundIn (numbered_scope before) was.finds = found_expanded (numbered_world w) unnumbered (numbered_scope before) depth (relative p) in
-        let agree : agrees (numbered_scope now) was.finds ≡ true =
-        agrees_now start was.finds found held.finds (subst (λ (o : Outcome Definition). FindsAsBefore (nearest (map present_definition now)) o.finds) there finds) in
-        match_is_same laws.equal w depth table tell (numbered_scope now) (met_scope laws.equal table now (mets table now met_now)) (relative q) (record { tree = relative p; outcome = was }) held
+        let held : IsHeld w depth table (record { tree = relative p; outcome = was }) = fresh_is_held laws.equal w depth table (numbered_scope w.dialect before) scope (relative p) in
+        let found : FoundIn (numbered_scope w.dialect before) was.finds = found_expanded (numbered_world w) unnumbered (numbered_scope w.dialect before) depth (relative p) in
+        let agree : agrees (numbered_scope w.dialect now) was.finds ≡ true =
+        agrees_now start was.finds found held.finds (subst (λ (o : Outcome Definition). FindsAsBefore (found_in w.dialect (map present_definition now)) o.finds) there finds) in
+        match_is_same laws.equal w depth table tell (numbered_scope w.dialect now) (met_scope laws.equal w.dialect table now (mets table now met_now)) (relative q) (record { tree = relative p; outcome = was }) held
         ∙ and_from _ _ ((laws.equal (relative q) (relative p)).1 (sym same)) agree
 
     -- a piece with the tree of an earlier one, plain or a definition
     matched_met : (p q : Forest) → IsPiece table number p → IsPiece table number q → relative p ≡ relative q
-        → FindsAsBefore (nearest (map present_definition now)) (expanded w (λ d. d) (nearest (map present_definition before)) depth p).finds
+        → FindsAsBefore (found_in w.dialect (map present_definition now)) (expanded w (λ d. d) (found_in w.dialect (map present_definition before)) depth p).finds
         → AllMatch (looked_of (members_after here depth (map present_definition before) (p ∷ []))) (looked_of (members_after here depth (map present_definition now) (q ∷ [])))
     matched_met p q one two same finds = go (definition_of (relative q)) refl
       where
@@ -167,8 +167,8 @@ module _ (laws : TurnLaws) (grammar : Grammar) (edition : Edition) (dialect : Di
             let earlier : List Looked = looked_of (members_after here depth (map present_definition before) (p ∷ [])) in
             subst (AllMatch earlier) (sym (none_looked (map present_definition now) q d two.from e)) (All-nil (λ l. list_any (is_same l) earlier ≡ true))
         go None e =
-            let was : Looked = looked_at (relative p) (expanded (numbered_world w) unnumbered (numbered_scope before) depth (relative p)) in
-            let is : Looked = looked_at (relative q) (expanded (numbered_world w) unnumbered (numbered_scope now) depth (relative q)) in
+            let was : Looked = looked_at (relative p) (expanded (numbered_world w) unnumbered (numbered_scope w.dialect before) depth (relative p)) in
+            let is : Looked = looked_at (relative q) (expanded (numbered_world w) unnumbered (numbered_scope w.dialect now) depth (relative q)) in
             let matches : list_any (is_same is) (was ∷ []) ≡ true = ap (λ (b : Bool). b || false) (same_looked_now p q one.from same finds) in
             subst (λ (ls : List Looked). AllMatch ls (looked_of (members_after here depth (map present_definition now) (q ∷ []))))
             (sym (one_looked before met p one (ap definition_of same ∙ e)))
@@ -177,15 +177,15 @@ module _ (laws : TurnLaws) (grammar : Grammar) (edition : Edition) (dialect : Di
 
   matched : (ones twos : List Forest) (p q : Forest) → All StandFromFirst ones → All StandFromFirst twos → All (IsPiece table number) ones → All (IsPiece table number) twos
       → IsPiece table number p → IsPiece table number q → relative p ≡ relative q
-      → FindsAsBefore (nearest (definitions_after [] twos)) (expanded w (λ d. d) (nearest (definitions_after [] ones)) depth p).finds
+      → FindsAsBefore (found_in w.dialect (definitions_after [] twos)) (expanded w (λ d. d) (found_in w.dialect (definitions_after [] ones)) depth p).finds
       → AllMatch (looked_of (members_after here depth (definitions_after [] ones) (p ∷ []))) (looked_of (members_after here depth (definitions_after [] twos) (q ∷ [])))
   matched ones twos p q stand stand_too are are_too one two same =
       let before : List Met = mets_after w depth number [] ones in
       let now : List Met = mets_after w depth number [] twos in
-      subst (λ (ds : List Definition). FindsAsBefore (nearest (definitions_after [] twos)) (expanded w (λ d. d) (nearest ds) depth p).finds
+      subst (λ (ds : List Definition). FindsAsBefore (found_in w.dialect (definitions_after [] twos)) (expanded w (λ d. d) (found_in w.dialect ds) depth p).finds
       → AllMatch (looked_of (members_after here depth ds (p ∷ []))) (looked_of (members_after here depth (definitions_after [] twos) (q ∷ []))))
       (sym (definitions_present w depth number [] ones (all_stand ones stand)))
-      (subst (λ (ds : List Definition). FindsAsBefore (nearest ds) (expanded w (λ d. d) (nearest (map present_definition before)) depth p).finds
+      (subst (λ (ds : List Definition). FindsAsBefore (found_in w.dialect ds) (expanded w (λ d. d) (found_in w.dialect (map present_definition before)) depth p).finds
       → AllMatch (looked_of (members_after here depth (map present_definition before) (p ∷ []))) (looked_of (members_after here depth ds (q ∷ []))))
       (sym (definitions_present w depth number [] twos (all_stand twos stand_too)))
       (matched_met before now (definitions_stand ones are) (definitions_stand twos are_too) p q one two same))
@@ -195,7 +195,7 @@ module _ (laws : TurnLaws) (grammar : Grammar) (edition : Edition) (dialect : Di
 module _ (laws : TurnLaws) (grammar : Grammar) (edition : Edition) (dialect : Dialect) (depth : ℕ) (text other : List ℕ) (f g p q : Forest) (ones twos more_ones more_twos : List Forest)
     (one : IsUtf8 text) (two : IsUtf8 other) (read : text_reading text ≡ Ok f) (read_too : text_reading other ≡ Ok g)
     (first : pieces f ≡ ones ++ p ∷ more_ones) (second : pieces g ≡ twos ++ q ∷ more_twos) (same : relative p ≡ relative q)
-    (finds : FindsAsBefore (nearest (definitions_after [] twos)) (expanded (world grammar edition dialect) (λ d. d) (nearest (definitions_after [] ones)) depth p).finds) where
+    (finds : FindsAsBefore (found_in dialect (definitions_after [] twos)) (expanded (world grammar edition dialect) (λ d. d) (found_in dialect (definitions_after [] ones)) depth p).finds) where
   abbrev all_here : Layers
   all_here = layers grammar edition dialect
 

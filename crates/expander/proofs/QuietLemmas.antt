@@ -57,16 +57,16 @@ module _ (spelling : Step → List PlacedStep → Option (List ℕ)) where
       quiet_spelled s (spelling s.step ss) (printed spelling ss) (no_word (is_definition_word s.step) parts.0) (quiet_printed ss parts.1)
 
 module _ (layers : Layers) (depth : ℕ) (f : Forest) where
-  quiet_output : HasNoWord f → are_quiet (output (members layers depth f)) ≡ true
-  quiet_output h =
-      ap (λ ss. are_quiet (visible ss)) (wordless_output layers depth (separated f) (quiet_separated f h))
+  quiet_output : layers.world.dialect.cfg ≡ None → HasNoWord f → are_quiet (output (members layers depth f)) ≡ true
+  quiet_output whole h =
+      ap (λ ss. are_quiet (visible ss)) (wordless_output layers depth (separated f) whole (quiet_separated f h))
       ∙ quiet_visible (placed None (walk (separated f))) (quiet_placed (walk (separated f)) (quiet_separated f h))
 
-  pub quiet_text : HasNoWord f → left_out layers.spelling (output (members layers depth f)) ≡ []
+  pub quiet_text : layers.world.dialect.cfg ≡ None → HasNoWord f → left_out layers.spelling (output (members layers depth f)) ≡ []
       → faults_of layers (members layers depth f) ≡ []
-  quiet_text h none_left =
+  quiet_text whole h none_left =
       ap (λ fs. in_order (fs ++ (nested (tokens_of layers (members layers depth f)) ++ unspellable (left_out layers.spelling (output (members layers depth f))))))
-      (wordless_faults layers depth (separated f) (quiet_separated f h))
+      (wordless_faults layers depth (separated f) whole (quiet_separated f h))
       ∙ ap (λ ts. in_order (map (λ (t : PrintedToken). fault_at NestedDefinition (place t.token)) ts ++ unspellable (left_out layers.spelling (output (members layers depth f)))))
-      (quiet_printed layers.spelling (output (members layers depth f)) (quiet_output h))
+      (quiet_printed layers.spelling (output (members layers depth f)) (quiet_output whole h))
       ∙ ap (λ ss. in_order (unspellable ss)) none_left

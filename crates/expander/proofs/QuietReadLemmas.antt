@@ -25,7 +25,7 @@ use Rattle.expander.proofs.QuietLemmas.{quiet_text}
 use Rattle.expander.proofs.SearchLemmas.{wordless_output}
 use Rattle.expander_session.proofs.WordLemmas.{quiet_separated}
 
-module _ (grammar : Grammar) (edition : Edition) (dialect : Dialect) (depth : ℕ) (f : Forest) (quiet : HasNoWord f)
+module _ (grammar : Grammar) (edition : Edition) (dialect : Dialect) (depth : ℕ) (f : Forest) (keeps : dialect.cfg ≡ None) (quiet : HasNoWord f)
     (whole : (print_of (walk (bare_pieces.separated f))).left_out ≡ []) where
   abbrev here : List PlacedStep
   here = placed None (walk (separated f))
@@ -33,7 +33,7 @@ module _ (grammar : Grammar) (edition : Edition) (dialect : Dialect) (depth : �
   -- what is put out is the text's own tokens
   none_here : left_out spelling_before (output (members (layers grammar edition dialect) depth f)) ≡ []
   none_here =
-      ap (λ ss. left_out spelling_before (visible ss)) (wordless_output (layers grammar edition dialect) depth (separated f) (quiet_separated f quiet))
+      ap (λ ss. left_out spelling_before (visible ss)) (wordless_output (layers grammar edition dialect) depth (separated f) keeps (quiet_separated f quiet))
       ∙ none_left_out 0 (visible here)
       (ap (left_out_from 0) (visible_bare here ∙ ap bare_printing.visible (steps_of-placed None (walk (separated f)))) ∙ whole)
 
@@ -41,7 +41,7 @@ module _ (grammar : Grammar) (edition : Edition) (dialect : Dialect) (depth : �
   quiet_meaning r m read is =
       let same : meaning_of (layers grammar edition dialect) (members (layers grammar edition dialect) depth f) ≡ m =
       (let both : Ok (meaning_of (layers grammar edition dialect) (members (layers grammar edition dialect) depth f)) ≡ Ok m = ap (meaning_from (layers grammar edition dialect) depth) (sym read) ∙ is in cc) in
-      ap (λ (n : ReadMeaning). n.faults) (sym same) ∙ quiet_text (layers grammar edition dialect) depth f quiet none_here
+      ap (λ (n : ReadMeaning). n.faults) (sym same) ∙ quiet_text (layers grammar edition dialect) depth f keeps quiet none_here
 
 -- ---- and back: a text whose meaning has no fault is printed whole
 
@@ -58,7 +58,7 @@ all_spelled n (s ∷ more) e = go (all_spelled (n + 1) more) (spelling_before s.
     go later None h = absurd (cc h)
     go later (Some text) h = later h
 
-module _ (grammar : Grammar) (edition : Edition) (dialect : Dialect) (depth : ℕ) (f : Forest) (quiet : HasNoWord f) where
+module _ (grammar : Grammar) (edition : Edition) (dialect : Dialect) (depth : ℕ) (f : Forest) (keeps : dialect.cfg ≡ None) (quiet : HasNoWord f) where
   abbrev there : List PlacedStep
   there = placed None (walk (separated f))
 
@@ -72,7 +72,7 @@ module _ (grammar : Grammar) (edition : Edition) (dialect : Dialect) (depth : �
       let last = nothing_parted (nested (tokens_of (layers grammar edition dialect) (members (layers grammar edition dialect) depth f))) _ none.1 in
       let whole : left_out spelling_before (output (members (layers grammar edition dialect) depth f)) ≡ [] = none_unspellable _ last.1 in
       let same : left_out spelling_before (visible there) ≡ [] =
-      ap (λ ss. left_out spelling_before (visible ss)) (sym (wordless_output (layers grammar edition dialect) depth (separated f) (quiet_separated f quiet))) ∙ whole in
+      ap (λ ss. left_out spelling_before (visible ss)) (sym (wordless_output (layers grammar edition dialect) depth (separated f) keeps (quiet_separated f quiet))) ∙ whole in
       ap (left_out_from 0) (sym (visible_bare there ∙ ap bare_printing.visible (steps_of-placed None (walk (separated f)))))
       ∙ all_spelled 0 (visible there) same
 

@@ -18,13 +18,13 @@ use Rattle.expander_model.specs.declared.call.Call.{Call}
 use Rattle.expander_model.specs.Definitions.{Definition}
 use Rattle.expander_model.specs.CallSteps.{call_at, key_at}
 use Rattle.expander_model.specs.Calls.{Path, bare, from_crate, other, Marked, none, token, inside, call, marked, unmarked, in_front}
-use Rattle.expander_model.specs.Definitions.{definition_of, nearest}
+use Rattle.expander_model.specs.Definitions.{definition_of}
 use Rattle.expander_model.specs.Expansion.{World, Outcome, Deeper, CallSite, placed, just, followed_by, grouped, fitted, unbroken, at_call, before_group, search_calls, expansion}
 use Rattle.expander_model.specs.Faults.{fault_at}
 use Rattle.expander_session.specs.Laws.{Fails, AreAllPlain, HasNoWord}
 use Rattle.expander_model.specs.Meaning.{Layers, members_after, output_of, member_faults}
 use Rattle.expander_model.specs.Pieces.{cut, put_together}
-use Rattle.expander_model.specs.Scoping.{Scoped, expanded}
+use Rattle.expander_model.specs.Scoping.{found_in, Scoped, expanded}
 use Rattle.expander_model.specs.declared.scope_rules.ScopeRules.TheVariants.{TopLevel, Rust}
 use Rattle.textual_scope.specs.Keywords.{HasNoKeyword}
 use Rattle.expander_model.proofs.SplittingLemmas.{put_together-cut}
@@ -150,7 +150,7 @@ is_plain (Some d) e = cc
 -- a piece is expanded as where no name finds a definition, and no list has one
 abbrev IsBare : Layers → ℕ → Forest → Type 0
 IsBare layers depth p =
-    expanded layers.world (λ d. d) (nearest []) depth p ≡ expansion layers.world (λ name. None) depth None p
+    expanded layers.world (λ d. d) (found_in layers.world.dialect []) depth p ≡ expansion layers.world (λ name. None) depth None p
 
 module _ (layers : Layers) (depth : ℕ) where
   quiet_steps : (ps : List Forest) → AreAllPlain ps → All (IsBare layers depth) ps
@@ -176,37 +176,37 @@ module _ (layers : Layers) (depth : ℕ) where
       ∙ quiet_faults ps plain.1 (All-tail (IsBare layers depth) p ps each))
 
   -- a piece that by the scope rules has no definition inside
-  bare_by : (p : Forest) → (layers.world.dialect.scope ≡ Rust → HasNoKeyword p) → IsBare layers depth p
-  bare_by p h = ap (λ (a : Scoped Definition). a.outcome) (unfound_scoped layers.world (λ d. d) depth p layers.world.dialect h)
+  bare_by : layers.world.dialect.cfg ≡ None → (p : Forest) → (layers.world.dialect.scope ≡ Rust → HasNoKeyword p) → IsBare layers depth p
+  bare_by whole p h = ap (λ (a : Scoped Definition). a.outcome) (unfound_scoped layers.world (λ d. d) depth p layers.world.dialect whole h)
 
   -- where a name finds pieces of texts alone
-  plainly_bare : layers.world.dialect.scope ≡ TopLevel → (ps : List Forest) → All (IsBare layers depth) ps
-  plainly_bare is [] = All-nil (IsBare layers depth)
-  plainly_bare is (p ∷ ps) =
-      All-cons (IsBare layers depth) p ps (bare_by p (λ rust. absurd (let both : TopLevel ≡ Rust = sym is ∙ rust in cc both))) (plainly_bare is ps)
+  plainly_bare : layers.world.dialect.scope ≡ TopLevel → layers.world.dialect.cfg ≡ None → (ps : List Forest) → All (IsBare layers depth) ps
+  plainly_bare is whole [] = All-nil (IsBare layers depth)
+  plainly_bare is whole (p ∷ ps) =
+      All-cons (IsBare layers depth) p ps (bare_by whole p (λ rust. absurd (let both : TopLevel ≡ Rust = sym is ∙ rust in cc both))) (plainly_bare is whole ps)
 
-  pub plain_output : (f : Forest) → layers.world.dialect.scope ≡ TopLevel → AreAllPlain (cut f)
+  pub plain_output : (f : Forest) → layers.world.dialect.scope ≡ TopLevel → layers.world.dialect.cfg ≡ None → AreAllPlain (cut f)
       → flat_map output_of (members_after layers depth [] (cut f)) ≡ placed None (walk f)
-  plain_output f is h = quiet_steps (cut f) h (plainly_bare is (cut f)) ∙ ap (λ g. placed None (walk g)) (put_together-cut f)
+  plain_output f is whole h = quiet_steps (cut f) h (plainly_bare is whole (cut f)) ∙ ap (λ g. placed None (walk g)) (put_together-cut f)
 
-  pub plain_faults : (f : Forest) → layers.world.dialect.scope ≡ TopLevel → AreAllPlain (cut f)
+  pub plain_faults : (f : Forest) → layers.world.dialect.scope ≡ TopLevel → layers.world.dialect.cfg ≡ None → AreAllPlain (cut f)
       → flat_map (member_faults layers) (members_after layers depth [] (cut f)) ≡ []
-  plain_faults f is h = quiet_faults (cut f) h (plainly_bare is (cut f))
+  plain_faults f is whole h = quiet_faults (cut f) h (plainly_bare is whole (cut f))
 
   -- without a definition keyword, by whatever dialect
-  wordless_bare : (ps : List Forest) → HasNoWord (put_together ps) → All (IsBare layers depth) ps
-  wordless_bare [] h = All-nil (IsBare layers depth)
-  wordless_bare (p ∷ ps) h =
+  wordless_bare : layers.world.dialect.cfg ≡ None → (ps : List Forest) → HasNoWord (put_together ps) → All (IsBare layers depth) ps
+  wordless_bare whole [] h = All-nil (IsBare layers depth)
+  wordless_bare whole (p ∷ ps) h =
       let parts = and_parts (list_all is_quiet (walk p)) (list_all is_quiet (walk (put_together ps)))
       (sym (list_all-append is_quiet (walk p) (walk (put_together ps))) ∙ ap (list_all is_quiet) (sym (walk-joined p (put_together ps))) ∙ h) in
       All-cons (IsBare layers depth) p ps
-      (bare_by p (λ rust. parts.0)) (wordless_bare ps parts.1)
+      (bare_by whole p (λ rust. parts.0)) (wordless_bare whole ps parts.1)
 
-  wordless_pieces : (f : Forest) → HasNoWord f → All (IsBare layers depth) (cut f)
-  wordless_pieces f h = wordless_bare (cut f) (ap (λ (g : Forest). list_all is_quiet (walk g)) (put_together-cut f) ∙ h)
+  wordless_pieces : layers.world.dialect.cfg ≡ None → (f : Forest) → HasNoWord f → All (IsBare layers depth) (cut f)
+  wordless_pieces whole f h = wordless_bare whole (cut f) (ap (λ (g : Forest). list_all is_quiet (walk g)) (put_together-cut f) ∙ h)
 
-  pub wordless_output : (f : Forest) → HasNoWord f → flat_map output_of (members_after layers depth [] (cut f)) ≡ placed None (walk f)
-  wordless_output f h = quiet_steps (cut f) (quiet_cut f h) (wordless_pieces f h) ∙ ap (λ g. placed None (walk g)) (put_together-cut f)
+  pub wordless_output : (f : Forest) → layers.world.dialect.cfg ≡ None → HasNoWord f → flat_map output_of (members_after layers depth [] (cut f)) ≡ placed None (walk f)
+  wordless_output f whole h = quiet_steps (cut f) (quiet_cut f h) (wordless_pieces whole f h) ∙ ap (λ g. placed None (walk g)) (put_together-cut f)
 
-  pub wordless_faults : (f : Forest) → HasNoWord f → flat_map (member_faults layers) (members_after layers depth [] (cut f)) ≡ []
-  wordless_faults f h = quiet_faults (cut f) (quiet_cut f h) (wordless_pieces f h)
+  pub wordless_faults : (f : Forest) → layers.world.dialect.cfg ≡ None → HasNoWord f → flat_map (member_faults layers) (members_after layers depth [] (cut f)) ≡ []
+  wordless_faults f whole h = quiet_faults (cut f) (quiet_cut f h) (wordless_pieces whole f h)

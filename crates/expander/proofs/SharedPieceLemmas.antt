@@ -12,7 +12,7 @@ use Rattle.expander_session.specs.Count.{Looked, expanded_count, is_same, looked
 use Rattle.expander_model.specs.declared.dialect.Dialect.{Dialect}
 use Rattle.expander_model.specs.Definitions.{Definition, definition_of}
 use Rattle.expander_model.specs.Expansion.{World}
-use Rattle.expander_model.specs.Scoping.{expanded}
+use Rattle.expander_model.specs.Scoping.{expanded, is_found}
 use Rattle.expander_model.specs.Held.{HasNumber, IsMet, Known, Met, Numbered, StandFromFirst, Tells, kept_after, kept_of, met_of, nearest_met, numbered_of, numbered_scope, numbered_world, with_met, unnumbered}
 use Rattle.expander_model.specs.DefinitionTrees.{definition_trees}
 use Rattle.expander_session.specs.Laws.{ExpandsNothing}
@@ -22,7 +22,6 @@ use Rattle.expander_scope.specs.Numbers.{Numbering, number_of, tree_of, with_tre
 use Rattle.expander_model.specs.Pieces.{pieces, relative}
 use Rattle.expander_session.specs.Replies.{IsMeant, IsReplyTo}
 use Rattle.expander_session.specs.Reuse.{HeldPiece, looked_held}
-use Rattle.small_grammar.specs.Text.{same_text}
 use Rattle.expander_session.specs.TextTurn.{StandsInText, held_of}
 use Rattle.expander_model.specs.World.{world}
 use Rattle.expander_session.specs.declared.session.Reply.{Reply}
@@ -40,20 +39,20 @@ use Rattle.expander_session.proofs.WorldLemmas.{world_at_other_places}
 -- ---- of pieces in places of their own only the trees decide what is held
 
 -- what a name finds among these, given nearest first
-abbrev nearest_of : List Numbered → List ℕ → Option Numbered
-nearest_of before name = find (λ (d : Numbered). same_text d.definition.name.sym name) before
+abbrev nearest_of : Dialect → List Numbered → List ℕ → Option Numbered
+nearest_of dialect before name = find (λ (d : Numbered). is_found dialect d.definition name) before
 
-scope_at : (before : List Met) (name : List ℕ) → numbered_scope before name ≡ nearest_of (map numbered_of before) name
-scope_at [] name = refl
-scope_at (m ∷ before) name = go (same_text m.numbered.definition.name.sym name) (scope_at before name)
+scope_at : (dialect : Dialect) (before : List Met) (name : List ℕ) → numbered_scope dialect before name ≡ nearest_of dialect (map numbered_of before) name
+scope_at dialect [] name = refl
+scope_at dialect (m ∷ before) name = go (is_found dialect m.numbered.definition name) (scope_at dialect before name)
   where
-    go : (b : Bool) → numbered_scope before name ≡ nearest_of (map numbered_of before) name
-        → option_map numbered_of (cond b (Some m) (nearest_met before name)) ≡ cond b (Some m.numbered) (nearest_of (map numbered_of before) name)
+    go : (b : Bool) → numbered_scope dialect before name ≡ nearest_of dialect (map numbered_of before) name
+        → option_map numbered_of (cond b (Some m) (nearest_met dialect before name)) ≡ cond b (Some m.numbered) (nearest_of dialect (map numbered_of before) name)
     go true later = refl
     go false later = later
 
-scope_is : (before : List Met) → numbered_scope before ≡ nearest_of (map numbered_of before)
-scope_is before = λ i name. scope_at before name i
+scope_is : (dialect : Dialect) (before : List Met) → numbered_scope dialect before ≡ nearest_of dialect (map numbered_of before)
+scope_is dialect before = λ i name. scope_at dialect before name i
 
 module _ (w : World Definition) (depth : ℕ) (number : Forest → ℕ) where
   -- the definitions with that of a tree, if it is one
@@ -63,7 +62,7 @@ module _ (w : World Definition) (depth : ℕ) (number : Forest → ℕ) where
 
   -- what is held of a tree
   abbrev tree_held : List Numbered → Forest → Option Definition → Option HeldPiece
-  tree_held before t None = Some (record { tree = t; outcome = expanded (numbered_world w) unnumbered (nearest_of before) depth t })
+  tree_held before t None = Some (record { tree = t; outcome = expanded (numbered_world w) unnumbered (nearest_of w.dialect before) depth t })
   tree_held before t (Some d) = None
 
   -- what is held of trees in order
@@ -83,8 +82,8 @@ module _ (w : World Definition) (depth : ℕ) (number : Forest → ℕ) where
       go (Some d) later = later (met_of w depth number p d ∷ before)
       go None later =
           ap (λ (scope : List ℕ → Option Numbered). record { tree = relative p; outcome = expanded (numbered_world w) unnumbered scope depth (relative p) } ∷ filter_map held_of (kept_after w depth number before ps))
-          (scope_is before)
-          ∙ ap (λ (hs : List HeldPiece). record { tree = relative p; outcome = expanded (numbered_world w) unnumbered (nearest_of (map numbered_of before)) depth (relative p) } ∷ hs)
+          (scope_is w.dialect before)
+          ∙ ap (λ (hs : List HeldPiece). record { tree = relative p; outcome = expanded (numbered_world w) unnumbered (nearest_of w.dialect (map numbered_of before)) depth (relative p) } ∷ hs)
           (later before)
 
 -- ---- pieces one after another

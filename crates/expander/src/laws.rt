@@ -30,8 +30,8 @@ ghost use Rattle.expander_session.specs.Reuse.{HeldPiece, IsHeld, looked_at, loo
 ghost use Rattle.expander_session.specs.State.{State, layers_of};
 ghost use Rattle.expander_session.specs.TextTurn.{InEntries, IsNext, IsTurn, held_of, is_unmatched, kept_entries, numbering_of, taken_after};
 ghost use Rattle.expander_model.specs.declared.call.Call.{Call};
-ghost use Rattle.expander_model.specs.Definitions.{Definition, definition_of, nearest};
-ghost use Rattle.expander_model.specs.Scoping.{expanded};
+ghost use Rattle.expander_model.specs.Definitions.{Definition, definition_of};
+ghost use Rattle.expander_model.specs.Scoping.{expanded, found_in};
 ghost use Rattle.expander_model.specs.declared.dialect.Dialect.{Dialect};
 ghost use Rattle.expander_model.specs.declared.scope_rules.ScopeRules.TheVariants.{TopLevel};
 ghost use Rattle.expander_model.specs.World.{world};
@@ -196,18 +196,22 @@ pub fn a_failed_call_stays_anywhere()
 
 /// If no piece is a definition, and names find pieces of texts alone, the output is the walk of
 /// the pieces, and no fault comes of expansion, whatever the layers below answer: `output`,
-/// `faults`. By whatever dialect that is so if no definition keyword is anywhere:
-/// `wordless_output`, `wordless_faults`.
+/// `faults`. By either scope that is so if no definition keyword is anywhere: `wordless_output`,
+/// `wordless_faults`. Conditions leave nothing out.
 pub fn without_definitions_nothing_changes()
     ensures output { (layers : Layers) (depth : ℕ) (f : Forest) →
-        layers.world.dialect.scope ≡ TopLevel → AreAllPlain (cut f) →
+        layers.world.dialect.scope ≡ TopLevel → layers.world.dialect.cfg ≡ None →
+        AreAllPlain (cut f) →
         flat_map output_of (members_after layers depth [] (cut f)) ≡ placed None (walk f) }
     ensures faults { (layers : Layers) (depth : ℕ) (f : Forest) →
-        layers.world.dialect.scope ≡ TopLevel → AreAllPlain (cut f) →
+        layers.world.dialect.scope ≡ TopLevel → layers.world.dialect.cfg ≡ None →
+        AreAllPlain (cut f) →
         flat_map (member_faults layers) (members_after layers depth [] (cut f)) ≡ [] }
-    ensures wordless_output { (layers : Layers) (depth : ℕ) (f : Forest) → HasNoWord f →
+    ensures wordless_output { (layers : Layers) (depth : ℕ) (f : Forest) →
+        layers.world.dialect.cfg ≡ None → HasNoWord f →
         flat_map output_of (members_after layers depth [] (cut f)) ≡ placed None (walk f) }
-    ensures wordless_faults { (layers : Layers) (depth : ℕ) (f : Forest) → HasNoWord f →
+    ensures wordless_faults { (layers : Layers) (depth : ℕ) (f : Forest) →
+        layers.world.dialect.cfg ≡ None → HasNoWord f →
         flat_map (member_faults layers) (members_after layers depth [] (cut f)) ≡ [] }
 {}
 
@@ -216,10 +220,11 @@ pub fn definitions_begin_with_their_keywords()
     ensures { (f : Forest) → HasNoWord f → AreAllPlain (pieces f) }
 {}
 
-/// A text that was read has no fault if it has no definition keyword and each of its tokens has a
-/// spelling.
+/// A text that was read has no fault if it has no definition keyword, conditions leave nothing out,
+/// and each of its tokens has a spelling.
 pub fn quiet_texts_have_no_fault()
-    ensures { (layers : Layers) (depth : ℕ) (f : Forest) → HasNoWord f →
+    ensures { (layers : Layers) (depth : ℕ) (f : Forest) →
+        layers.world.dialect.cfg ≡ None → HasNoWord f →
         left_out layers.spelling (output (members layers depth f)) ≡ [] →
         faults_of layers (members layers depth f) ≡ [] }
 {}
@@ -228,18 +233,19 @@ pub fn quiet_texts_have_no_fault()
 /// each of its tokens has a spelling: `short`. So it is for a text of fewer than 2^32 bytes once
 /// each `"` and `\` of it is escaped: `escaped_text`. A text of any length has none exactly if each
 /// name and literal is displayed in fewer than 2^32 bytes: `exact`. (A longer one is in no text, so
-/// it cannot be printed. The escapes of a doc comment could make one of a shorter text.)
+/// it cannot be printed. The escapes of a doc comment could make one of a shorter text.) Conditions
+/// leave nothing out.
 pub fn no_fault_without_definition_keywords()
-    ensures short { (grammar : Grammar) (edition : Edition) (dialect : Dialect) (depth : ℕ)
-        (text : List ℕ) (f : Forest) (m : ReadMeaning) →
+    ensures short { (grammar : Grammar) (edition : Edition) (dialect : Dialect) →
+        dialect.cfg ≡ None → (depth : ℕ) (text : List ℕ) (f : Forest) (m : ReadMeaning) →
         IsUtf8 text → length text < 2 ^ 31 → text_reading text ≡ Ok f → HasNoWord f →
         meaning (layers grammar edition dialect) depth text ≡ Ok m → m.faults ≡ [] }
-    ensures escaped_text { (grammar : Grammar) (edition : Edition) (dialect : Dialect) (depth : ℕ)
-        (text : List ℕ) (f : Forest) (m : ReadMeaning) →
+    ensures escaped_text { (grammar : Grammar) (edition : Edition) (dialect : Dialect) →
+        dialect.cfg ≡ None → (depth : ℕ) (text : List ℕ) (f : Forest) (m : ReadMeaning) →
         IsUtf8 text → length (escaped text) < 2 ^ 32 → text_reading text ≡ Ok f → HasNoWord f →
         meaning (layers grammar edition dialect) depth text ≡ Ok m → m.faults ≡ [] }
-    ensures exact { (grammar : Grammar) (edition : Edition) (dialect : Dialect) (depth : ℕ)
-        (text : List ℕ) (f : Forest) (m : ReadMeaning) →
+    ensures exact { (grammar : Grammar) (edition : Edition) (dialect : Dialect) →
+        dialect.cfg ≡ None → (depth : ℕ) (text : List ℕ) (f : Forest) (m : ReadMeaning) →
         IsUtf8 text → text_reading text ≡ Ok f → HasNoWord f →
         meaning (layers grammar edition dialect) depth text ≡ Ok m →
         (m.faults ≡ []) ↔ AreShort (walk f) }
@@ -268,8 +274,8 @@ pub fn printed_tokens_are_the_texts_own()
 
 /// Faultless output is a fixed point. If a text means an expansion without a fault, after whatever
 /// definitions of other texts, the printed text is read, has no definition, and by itself means
-/// just the same bytes, without a fault, under every grammar, edition, dialect and number of
-/// levels.
+/// just the same bytes, without a fault, under every grammar, edition, dialect without `cfg` and
+/// number of levels.
 pub fn faultless_output_is_a_fixed_point()
     ensures { (grammar : Grammar) (edition : Edition) (dialect : Dialect) (depth : ℕ)
         (initial : List Definition) (text : List ℕ) (m : ReadMeaning) →
@@ -281,8 +287,8 @@ pub fn faultless_output_is_a_fixed_point()
 }
 
 /// So it is for replies. Any reply to what a reply without faults printed, of a session without a
-/// prelude, with any grammar, edition, dialect, number of levels and cache, prints the same bytes
-/// without a fault. (With a prelude it need not: what a call printed may be a call together with
+/// prelude, with any grammar, edition, dialect without `cfg`, number of levels and cache, prints the
+/// same bytes without a fault. (With a prelude it need not: what a call printed may be a call together with
 /// what follows it, once both are read again.)
 pub fn faultless_replies_are_fixed_points()
     ensures { (grammar : Grammar) (edition : Edition) (dialect : Dialect) (depth : ℕ)
@@ -290,7 +296,7 @@ pub fn faultless_replies_are_fixed_points()
         (e : Expanded) →
         IsReplyIn (layers grammar edition dialect) depth initial text earlier (Read e) →
         e.faults ≡ [] →
-        (others : Grammar) (later : Edition) (rules : Dialect) (levels : ℕ)
+        (others : Grammar) (later : Edition) (rules : Dialect) → rules.cfg ≡ None → (levels : ℕ)
         (held : Option (List Looked)) (reply : Reply) →
         IsReplyTo (layers others later rules) levels e.printed held reply →
         RepliesWith e.printed reply }
@@ -362,20 +368,20 @@ fn valid_memos_are_new_expansions()
         ℕ) (trees : List Forest) (before : List Met) (tree : Forest) (q : HeldPiece) →
         TellsApart number_of trees → All (IsMet (Known number_of trees)) before →
         IsHeld world depth (Known number_of trees) q →
-        matches (numbered_scope before) tree q ≡ true → q.outcome
-        ≡ expanded (numbered_world world) unnumbered (numbered_scope before) depth tree }
+        matches (numbered_scope world.dialect before) tree q ≡ true → q.outcome
+        ≡ expanded (numbered_world world) unnumbered (numbered_scope world.dialect before) depth tree }
     ensures counted { (world : World Definition) (depth : ℕ) (number_of : Forest →
         ℕ) (trees : List Forest) (before : List Met) (tree : Forest) (q : HeldPiece) →
         TellsApart number_of trees → All (IsMet (Known number_of trees)) before →
         IsHeld world depth (Known number_of trees) q →
-        is_same (looked_at tree (expanded (numbered_world world) unnumbered (numbered_scope before)
-        depth tree)) (looked_held q) ≡ matches (numbered_scope before) tree q }
+        is_same (looked_at tree (expanded (numbered_world world) unnumbered (numbered_scope world.dialect before)
+        depth tree)) (looked_held q) ≡ matches (numbered_scope world.dialect before) tree q }
     ensures fresh { (world : World Definition) (depth : ℕ) (number_of : Forest →
         ℕ) (trees : List Forest) (before : List Met) (tree : Forest) →
         All (IsMet (Known number_of trees)) before →
         IsHeld world depth (Known number_of trees) (record {
           tree = tree;
-          outcome = expanded (numbered_world world) unnumbered (numbered_scope before) depth tree;
+          outcome = expanded (numbered_world world) unnumbered (numbered_scope world.dialect before) depth tree;
         }) }
 {
     equal_pieces();
@@ -398,7 +404,7 @@ fn a_text_over_its_cache()
         IsTurn (world grammar edition dialect) depth text f number_of trees held →
         expanded_count (Some (map looked_held held))
         (looked_of (members (layers grammar edition dialect) depth f))
-        ≡ length (filter (is_unmatched held)
+        ≡ length (filter (is_unmatched dialect held)
         (taken_after (world grammar edition dialect) depth number_of held [] (pieces f))) }
     ensures held { (grammar : Grammar) (edition : Edition) (dialect : Dialect) (depth : ℕ)
         (text : List ℕ) (f : Forest) (number_of : Forest → ℕ) (trees : List Forest)
@@ -462,8 +468,8 @@ pub fn unchanged_lookups_are_cache_hits()
         IsUtf8 text → IsUtf8 other → text_reading text ≡ Ok f → text_reading other ≡ Ok g →
         pieces f ≡ ones ++ p ∷ more_ones → pieces g ≡ twos ++ q ∷ more_twos → relative p
         ≡ relative q →
-        FindsAsBefore (nearest (definitions_after [] twos))
-        (expanded (world grammar edition dialect) (λ d. d) (nearest (definitions_after [] ones))
+        FindsAsBefore (found_in dialect (definitions_after [] twos))
+        (expanded (world grammar edition dialect) (λ d. d) (found_in dialect (definitions_after [] ones))
         depth p).finds →
         expanded_count (Some (looked_of (members (layers grammar edition dialect) depth f)))
         (looked_of (members_after (layers grammar edition dialect) depth
@@ -473,8 +479,8 @@ pub fn unchanged_lookups_are_cache_hits()
         IsUtf8 text → IsUtf8 other → text_reading text ≡ Ok f → text_reading other ≡ Ok g →
         pieces f ≡ ones ++ p ∷ more_ones → pieces g ≡ twos ++ q ∷ more_twos → relative p
         ≡ relative q →
-        FindsAsBefore (nearest (definitions_after [] twos))
-        (expanded (world grammar edition dialect) (λ d. d) (nearest (definitions_after [] ones))
+        FindsAsBefore (found_in dialect (definitions_after [] twos))
+        (expanded (world grammar edition dialect) (λ d. d) (found_in dialect (definitions_after [] ones))
         depth p).finds →
         expanded_count (Some (looked_of (members (layers grammar edition dialect) depth f)))
         (looked_of (members (layers grammar edition dialect) depth g))
@@ -489,8 +495,8 @@ pub fn unchanged_lookups_are_cache_hits()
         IsUtf8 text → IsUtf8 other → text_reading text ≡ Ok f → text_reading other ≡ Ok g →
         pieces f ≡ ones ++ p ∷ more_ones → pieces g ≡ twos ++ q ∷ more_twos → relative p
         ≡ relative q →
-        FindsAsBefore (nearest (definitions_after [] twos))
-        (expanded (world grammar edition dialect) (λ d. d) (nearest (definitions_after [] ones))
+        FindsAsBefore (found_in dialect (definitions_after [] twos))
+        (expanded (world grammar edition dialect) (λ d. d) (found_in dialect (definitions_after [] ones))
         depth p).finds →
         IsReplyTo (layers grammar edition dialect) depth other
         (Some (looked_of (members (layers grammar edition dialect) depth f))) (Read e) →

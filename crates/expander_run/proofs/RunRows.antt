@@ -15,7 +15,7 @@ use Rattle.expander_model.specs.Definitions.{Definition, definition_of, nearest}
 use Rattle.expander_model.specs.Expansion.{World, Outcome, CallSite, just, faulted, whole_call}
 use Rattle.expander_session.specs.Replies.{NeedsNumbers}
 use Rattle.expander_model.specs.Meaning.{Layers, member, members_after, with_definition}
-use Rattle.expander_model.specs.Scoping.{Around, Scoped, Search, definition_in, is_left_out, in_group, behind, without_locals, and_next, in_brackets, defined, unbroken, looked_up, at_key, at_call, kept_call, search_leaf, takes_end, search_trees, search_piece, search_pieces, search_list}
+use Rattle.expander_model.specs.Scoping.{Around, Scoped, Search, PieceKind, out_piece, definition_piece, plain_piece, found_in, kind_in, is_left_out, in_group, behind, without_locals, and_next, in_brackets, defined, unbroken, looked_up, at_key, at_call, kept_call, search_leaf, takes_end, search_trees, search_piece, search_pieces, search_list}
 use Rattle.expander_model.specs.PieceStates.{after_call, after_group, after_leaf}
 use Rattle.expander_model.specs.Pieces.{cut}
 use Rattle.expander_model.specs.declared.begun.Begun.{Begun}
@@ -182,15 +182,16 @@ module _ (dialect : Dialect) (world : World Definition) (local : Definition → 
         small_next (at_call dialect world local scope None around path name site kept) (λ here. search_trees dialect world local scope search None behind_it here rest)
         around (small_call path name around site kept (small_kept around path name bang d (unmarked a))) (λ here. small_trees behind_it here rest)
 
-    small_part : (around : Around) (p : Forest) (d : Option Definition) → IsSmall (search_piece dialect world local scope search None around p d)
-    small_part around p (Some d) = small_defined around d
-    small_part around p None = small_trees Nothing around (marked p)
+    small_part : (around : Around) (p : Forest) (k : PieceKind) → IsSmall (search_piece dialect world local scope search None around p k)
+    small_part around p out_piece = refl
+    small_part around p (definition_piece d) = small_defined around d
+    small_part around p plain_piece = small_trees Nothing around (marked p)
 
     small_parts : (around : Around) (ps : List Forest) → IsSmall (search_pieces dialect world local scope search None around ps)
     small_parts around [] = refl
     small_parts around (p ∷ ps) =
-        small_next (search_piece dialect world local scope search None around p (definition_in dialect.scope p)) (λ here. search_pieces dialect world local scope search None here ps)
-        around (small_part around p (definition_in dialect.scope p)) (λ here. small_parts here ps)
+        small_next (search_piece dialect world local scope search None around p (kind_in dialect around.standing p)) (λ here. search_pieces dialect world local scope search None here ps)
+        around (small_part around p (kind_in dialect around.standing p)) (λ here. small_parts here ps)
 
   small_list : (n : ℕ) (around : Around) (f : Forest) → IsSmall (search_list dialect world local scope None n around f)
   small_list zero around f = refl
@@ -198,7 +199,7 @@ module _ (dialect : Dialect) (world : World Definition) (local : Definition → 
 
 -- by whatever dialect
 quiet_member : (layers : Layers) (before : List Definition) (p : Forest) (d : Option Definition) → bursts (member layers 0 before p d) ≡ false
-quiet_member layers before p None = small_list layers.world.dialect layers.world (λ d. d) (nearest before) (suc (size p)) (without_locals Top None) p
+quiet_member layers before p None = small_list layers.world.dialect layers.world (λ d. d) (found_in layers.world.dialect before) (suc (size p)) (without_locals Top None) p
 quiet_member layers before p (Some d) = refl
 
 never_without_a_level : (layers : Layers) (before : List Definition) (ps : List Forest) → list_any bursts (members_after layers 0 before ps) ≡ false

@@ -4,7 +4,7 @@ use expander_model::dialect::Dialect;
 use tt_data::Edition;
 
 /// What a run expands by: a grammar, an edition, a dialect, and a number of levels.
-#[derive(Clone, Copy, Drop, Debug)]
+#[derive(Drop)]
 pub struct Options<G> {
     /// The grammar of the fragments.
     pub grammar: G,

@@ -76,6 +76,7 @@ fn scoped(alloc: Global, text: &str, scope: ScopeRules) -> Result<Session<SmallG
         Dialect {
             scope,
             items: false,
+            cfg: None,
         },
     );
     Ok(Session::with_dialect(alloc, text, SmallGrammar, edition, dialect, 128)?)

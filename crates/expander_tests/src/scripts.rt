@@ -69,6 +69,7 @@ pub(crate) const OPTIONS: Options<SmallGrammar> = Options {
     dialect: Dialect {
         scope: ScopeRules::TopLevel,
         items: false,
+        cfg: None,
     },
     depth: 128,
 };

@@ -22,7 +22,7 @@ returns-then-is_definition-clause-taken g c =
     let A = g.G.FragmentGrammar.answer c.args.context.now.grammar.now in
     let tree_is : c.in_ok-clone.field-0.value ≡ own_top (relative (piece_at c.args.own.now)) = search rules in
     rw c.reserve.ensures at
-    (c.evaluate_definition.ensures.taken A c.args.context.now.dialect.now c.args.context.now.depth (piece_at c.args.own.now) c.requires.places c.requires.right.have
+    (c.evaluate_definition.ensures.taken A c.args.context.now.depth (piece_at c.args.own.now) c.requires.places c.requires.right.have
     (own_first c.args.own.now.start (tree_at c.args.own.now).inner c.requires.own.start) tree_is)
 
 pub link_of-link-requires-clause-linked : goal.link_of-link-requires-clause-linked

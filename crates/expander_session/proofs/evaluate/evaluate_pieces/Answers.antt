@@ -34,7 +34,7 @@ pub evaluate_imports-requires-clause-none : goal.evaluate_imports-requires-claus
 evaluate_imports-requires-clause-none g c =
     let A = g.G.FragmentGrammar.answer c.args.context.now.grammar.now in
     none_imported A c.args.edition c.args.context.now.dialect.now c.args.context.now.depth c.args.context.now.memory.now c.args.context.now.prelude.now (map piece_at c.args.pieces.now) _
-    c.in_ok-now.ensures.none c.in_ok-now.ensures.read c.in_ok-now.ensures.edition (c.in_ok-now.ensures.taken A c.args.context.now.dialect.now c.args.context.now.depth c.requires.right)
+    (c.in_ok-now.ensures.none c.args.context.now.dialect.now) c.in_ok-now.ensures.read c.in_ok-now.ensures.edition (c.in_ok-now.ensures.taken A c.args.context.now.dialect.now c.args.context.now.depth c.requires.right)
 
 pub returns-in_err-evaluate_imports-clause-tokens : goal.returns-in_err-evaluate_imports-clause-tokens
 returns-in_err-evaluate_imports-clause-tokens g c = λ e.
