@@ -32,6 +32,14 @@ with_rule = record (new_rule (codes "with")) {
   action = Some Append;
 }
 
+-- the options for conditional compilation: an option that may be used any number of times
+abbrev pub cfg_rule : Rule
+cfg_rule = record (new_rule (codes "cfg")) {
+  long = Some (codes "cfg");
+  value_names = 1;
+  action = Some Append;
+}
+
 -- a layout is asked for: an option with no value of its own
 abbrev pub layout_rule : Rule
 layout_rule = record (new_rule (codes "layout")) {
@@ -71,9 +79,9 @@ pub record IsSubcommand (name : Text) (shape : Shape) : Type 0 where
 abbrev pub with_more : Rule → Shape → Shape
 with_more rule s = record s { rules = s.rules ++ rule ∷ [] }
 
--- a subcommand on a text, which takes definitions of other texts too
+-- a subcommand on a text, which takes definitions of other texts too, and options of `cfg`
 abbrev pub on_text : Shape → Shape
-on_text s = with_more with_rule (with_more library_rule s)
+on_text s = with_more cfg_rule (with_more with_rule (with_more library_rule s))
 
 pub record IsTextSubcommand (name : Text) (shape : Shape) : Type 0 where
   pub base : Shape
@@ -128,12 +136,13 @@ pub record ChosenBy (rows : List Row) (options : Options AnyGrammar) : Type 0 wh
   pub chosen : Chosen grammar edition scope depth options
 
 -- what they ask for: a job with these options, laid out or not, and, each as its word names it, a
--- folder of libraries, other files in order, and a text
+-- folder of libraries, other files in order, options of `cfg`, and a text
 pub record AsksBy (rows : List Row) (job : Job) : Type 0 where
   pub options : ChosenBy rows job.options
   pub has_layout : IsFlag (one_of (codes "layout") rows) job.layout
   pub has_library : first_of (codes "std") rows ≡ option_map (λ s. s.now) job.library
   pub has_with : unwrap_or (all_of (codes "with") rows) [] ≡ map (λ s. s.now) job.with.items
+  pub has_cfg : unwrap_or (all_of (codes "cfg") rows) [] ≡ map (λ s. s.now) job.cfg.items
   pub has_file : IsFile (first_of (codes "file") rows) (option_map (λ s. s.now) job.file)
 
 -- the subcommand that was named, and its values, ask for this job

@@ -4,7 +4,7 @@ ghost use Rattle.clap.specs.Words.{app_of, rule_of, shape_of};
 ghost use Rattle.clap.specs.declared.builder.command.Command.TheViews.{out-Command as fields_of};
 ghost use Rattle.clap.specs.declared.builder.value_parser.ValueParser.{ValueParser};
 ghost use Rattle.filgordd.specs.Commands.{ChoosesLanguage, IsExpandSubcommand, IsProgram, IsSubcommand, IsTextSubcommand};
-ghost use Rattle.filgordd.specs.Commands.{file_rule, layout_rule, library_rule, option_rule, with_rule};
+ghost use Rattle.filgordd.specs.Commands.{cfg_rule, file_rule, layout_rule, library_rule, option_rule, with_rule};
 
 use clap::{Arg, ArgAction, Command, value_parser};
 use std::alloc::{AllocError, Global};
@@ -94,6 +94,20 @@ fn with<'a>(alloc: Global) -> Arg<'a>
         .help("A file whose macros the text may call, of this crate or of another; may be repeated")
 }
 
+fn cfg<'a>(alloc: Global) -> Arg<'a>
+    ensures rule { rule_of result ≡ cfg_rule }
+    ensures own { result.global ≡ false }
+{
+    Arg::new(alloc, "cfg")
+        .long("cfg")
+        .value_name("SPEC")
+        .action(ArgAction::Append)
+        .help(
+            "An option that is set, NAME or KEY=\"VALUE\"; may be repeated. With one, items and \
+            macros whose cfg is false are left out",
+        )
+}
+
 fn layout<'a>(alloc: Global) -> Arg<'a>
     ensures rule { rule_of result ≡ layout_rule }
     ensures own { result.global ≡ false }
@@ -150,7 +164,8 @@ fn text_subcommand<'a>(
 {
     subcommand(alloc, name, about)?
         .arg(library(alloc))?
-        .arg(with(alloc))
+        .arg(with(alloc))?
+        .arg(cfg(alloc))
 }
 
 // The subcommand that prints an expansion.

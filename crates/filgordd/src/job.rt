@@ -42,6 +42,8 @@ pub(crate) struct Job<'a> {
     pub(crate) library: Option<&'a str>,
     /// The words for the other files, in order.
     pub(crate) with: Vec<&'a str>,
+    /// The words for options of `cfg`, in order.
+    pub(crate) cfg: Vec<&'a str>,
     /// The path of the text's file; without one it is standard input.
     pub(crate) file: Option<&'a str>,
 }

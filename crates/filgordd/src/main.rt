@@ -3,6 +3,7 @@
 #![tactic(auto)]
 
 mod command;
+mod conditions;
 mod files;
 mod job;
 mod layout;
@@ -37,7 +38,7 @@ fn answer_words(rt: &HostRuntime) -> io::Result<ExitCode> {
         Err(error) => return unread(rt, &error),
     };
     match request_of(rt.alloc(), words.as_slice())? {
-        Request::Work(job) => perform(rt, &job),
+        Request::Work(job) => perform(rt, job),
         Request::Show(text) => {
             print!(rt; "{text}")?;
             Ok(ExitCode::SUCCESS)

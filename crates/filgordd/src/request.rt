@@ -45,13 +45,17 @@ fn options_in(matches: &ArgMatches<'_>) -> Option<Options<AnyGrammar>>
     options_of(grammar, edition, scope, depth)
 }
 
-// The words for other files, in order.
-fn with_words<'a>(alloc: Global, matches: &ArgMatches<'a>) -> Result<Vec<&'a str>, AllocError>
+// The words of an option that may be used any number of times, in order.
+fn words_of<'a>(
+    alloc: Global,
+    matches: &ArgMatches<'a>,
+    name: &str,
+) -> Result<Vec<&'a str>, AllocError>
     ensures { IfOk result (λ words.
-        unwrap_or (all_of (codes "with") (rows_of (found_of matches.now))) []
+        unwrap_or (all_of name.now (rows_of (found_of matches.now))) []
         ≡ map (λ s. s.now) words.items) }
 {
-    match matches.get_strs("with") {
+    match matches.get_strs(name) {
         Some(words) => Vec::from_slice(alloc, words),
         None => Ok(Vec::new(alloc)),
     }
@@ -74,7 +78,8 @@ fn job_of<'a>(
         options,
         layout: matches.get_flag("layout"),
         library: matches.get_str("std"),
-        with: with_words(alloc, matches)?,
+        with: words_of(alloc, matches, "with")?,
+        cfg: words_of(alloc, matches, "cfg")?,
         file: file_of(matches.get_str("file")),
     }))
 }

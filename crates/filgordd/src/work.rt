@@ -1,5 +1,6 @@
 //! Does what the program is asked for.
 
+use crate::conditions::cfg_of;
 use crate::files::{misused, opened, read_whole, stopped};
 use crate::job::{Action, Job};
 use crate::layout::expand_in_lines;
@@ -76,7 +77,7 @@ fn replay<R: Read + Drop>(
 // Does a job on a whole text, in which what is no code is blank. `name` is its file's.
 fn answer(
     rt: &HostRuntime,
-    job: &Job<'_>,
+    job: Job<'_>,
     others: Others,
     name: &str,
     text: &[u8],
@@ -91,7 +92,7 @@ fn answer(
 // Does a job on what a reader has left. `name` is the reader's.
 fn work_on<R: Read + Drop>(
     rt: &HostRuntime,
-    job: &Job<'_>,
+    job: Job<'_>,
     others: Others,
     name: &str,
     reader: R,
@@ -109,7 +110,7 @@ fn work_on<R: Read + Drop>(
 }
 
 // Does a job on its text after these definitions.
-fn work(rt: &HostRuntime, job: &Job<'_>, others: Others) -> io::Result<ExitCode> {
+fn work(rt: &HostRuntime, job: Job<'_>, others: Others) -> io::Result<ExitCode> {
     match job.file {
         None => work_on(rt, job, others, "standard input", rt.stdin()),
         Some(path) => match opened(rt, path) {
@@ -119,9 +120,14 @@ fn work(rt: &HostRuntime, job: &Job<'_>, others: Others) -> io::Result<ExitCode>
     }
 }
 
-/// Does a job. The status is 2 where one of its files cannot be opened.
-pub(crate) fn perform(rt: &HostRuntime, job: &Job<'_>) -> io::Result<ExitCode> {
-    match others_of(rt, job) {
+/// Does a job. The status is 2 where a word for `cfg` names no option, or one of its files cannot be
+/// opened.
+pub(crate) fn perform(rt: &HostRuntime, mut job: Job<'_>) -> io::Result<ExitCode> {
+    match cfg_of(rt.alloc(), job.cfg.as_slice())? {
+        Ok(cfg) => job.options.dialect.cfg = cfg,
+        Err(word) => return misused(rt, word, &"no option for cfg"),
+    }
+    match others_of(rt, &job) {
         Ok(others) => work(rt, job, others),
         Err(Ended::Status(status)) => Ok(status),
         Err(Ended::Failed(error)) => Err(error),

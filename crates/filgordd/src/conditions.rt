@@ -1,0 +1,32 @@
+//! The options for conditional compilation that words name.
+ghost use Rattle.std.specs.Prelude.{◌≡◌, None, Some, IfOk, IfErr, IfNone, IfSome, map, []};
+ghost use Rattle.cfg_options.specs.Options.{options_of};
+ghost use Rattle.cfg_options.specs.Words.{option_of};
+ghost use Rattle.filgordd.specs.Conditions.{are_named, no_options};
+
+use cfg_options::{CfgFault, CfgOptions};
+use std::alloc::{AllocError, Global};
+
+/// The set of the options that these words name, or the first word that names none. Without a word
+/// there is no set. Out of memory is its only error.
+pub(crate) fn cfg_of<'a>(
+    alloc: Global,
+    words: &[&'a str],
+) -> Result<Result<Option<CfgOptions>, &'a str>, AllocError>
+    ensures none { IfOk result (λ given. IfOk given (λ set. IfNone set (words.now ≡ []))) }
+    ensures set { IfOk result (λ given. IfOk given (λ set. IfSome set (λ o.
+        options_of o ≡ are_named no_options (map (λ w. w.now) words.now)))) }
+{
+    if words.is_empty() {
+        return Ok(Ok(None));
+    }
+    let mut options = CfgOptions::new(alloc);
+    for word in words {
+        match options.push(word) {
+            Ok(()) => {}
+            Err(CfgFault::Memory) => return Err(AllocError),
+            Err(_) => return Ok(Err(word)),
+        }
+    }
+    Ok(Ok(Some(options)))
+}
