@@ -38,7 +38,7 @@ module _ (inner : PrefixEntryPoint → Forest → Prefix) where
       → (inner entry (shape f)).fault ≡ false →
       1 ≤ (inner entry (shape f)).tokens) → (entry : PrefixEntryPoint) (f : Forest) → entry ≢ Vis →
       (with_items inner entry (shape f)).fault ≡ false
-          → 1 ≤ (with_items inner entry (shape f)).tokens
+      → 1 ≤ (with_items inner entry (shape f)).tokens
   with_items-takes takes Item f other e = some-takes f e
   with_items-takes takes entry f other e = takes entry f other e
 
@@ -59,4 +59,4 @@ pub item-is : (inner : PrefixEntryPoint → Forest → Prefix) (entry : PrefixEn
 item-is inner entry f n b item count none = rw item
     (ap (λ n. record { tokens = n; fault = b }) (count ∙ sym (steps-shape f))
     ∙ ap (λ b. record { tokens = steps (shape f); fault = b })
-        (as_empty b f none ∙ sym (is_empty-shape f)))
+    (as_empty b f none ∙ sym (is_empty-shape f)))

@@ -41,8 +41,12 @@ abbrev pub told_unread : ReadFault → ToldFault
 told_unread f = record { kind = read_kind_number f.kind; range = byte_range f.range }
 
 abbrev pub counted : Expanded → Counts
-counted e = record { printed = length e.printed; tokens = length e.origins;
-    faults = length e.faults; expanded = e.expanded }
+counted e = record {
+  printed = length e.printed;
+  tokens = length e.origins;
+  faults = length e.faults;
+  expanded = e.expanded;
+}
 
 -- ---- answers
 

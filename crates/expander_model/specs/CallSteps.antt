@@ -75,6 +75,10 @@ key_at f c = key_with (foreign_root f) c.name
 abbrev pub first_call : Marked → Option Call
 first_call (call (other first second) name bang d a rest) = None
 first_call (call path name bang d a rest) =
-    Some (record { name = name; from_group = group d (unmarked a) (unmarked rest);
-    argument = unmarked a; rest = unmarked rest })
+    Some (record {
+      name = name;
+      from_group = group d (unmarked a) (unmarked rest);
+      argument = unmarked a;
+      rest = unmarked rest;
+    })
 first_call _ = None

@@ -51,7 +51,7 @@ mark_leaf (as_leaf.Punct first)
     (token (as_leaf.Punct second) (call bare name bang brackets argument rest)) =
     if is_colons first second then call (other first second) name bang brackets argument rest
     else token (as_leaf.Punct first)
-        (token (as_leaf.Punct second) (call bare name bang brackets argument rest))
+    (token (as_leaf.Punct second) (call bare name bang brackets argument rest))
 mark_leaf (as_leaf.Ident crate) (call (other first second) name bang brackets argument rest) =
     if is_root crate then call (from_crate crate first second) name bang brackets argument rest
     else token (as_leaf.Ident crate) (call (other first second) name bang brackets argument rest)

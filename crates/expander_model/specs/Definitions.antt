@@ -29,10 +29,15 @@ abbrev pub definition_code : Coded Definition
 definition_code =
     code_by (Ident × (Option Forest × (Forest × (Bool × Forest))))
     (coded× ident_row.the_row.coded
-        (coded× (coded_option forest_code) (coded× forest_code (coded× coded_bool forest_code))))
+    (coded× (coded_option forest_code) (coded× forest_code (coded× coded_bool forest_code))))
     (λ d. (d.name, (d.arguments, (d.body, (d.is_macro, d.piece)))))
-    (λ p. record { name = p.0; arguments = p.1.0; body = p.1.1.0; is_macro = p.1.1.1.0;
-        piece = p.1.1.1.1 })
+    (λ p. record {
+      name = p.0;
+      arguments = p.1.0;
+      body = p.1.1.0;
+      is_macro = p.1.1.1.0;
+      piece = p.1.1.1.1;
+    })
     (λ _. refl)
 
 -- what follows an outer attribute at the beginning

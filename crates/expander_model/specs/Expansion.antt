@@ -45,8 +45,12 @@ just outer steps = record { steps = placed outer steps; faults = []; finds = [];
 -- one result after another
 abbrev pub followed_by : {D : Type 0} → Outcome D → Outcome D → Outcome D
 followed_by a b =
-    record { steps = a.steps ++ b.steps; faults = a.faults ++ b.faults; finds = a.finds ++ b.finds;
-    bursts = a.bursts || b.bursts }
+    record {
+      steps = a.steps ++ b.steps;
+      faults = a.faults ++ b.faults;
+      finds = a.finds ++ b.finds;
+      bursts = a.bursts || b.bursts;
+    }
 
 -- a result in brackets
 abbrev pub grouped : {D : Type 0} → Option Span → Delimiter → Outcome D → Outcome D
@@ -132,10 +136,13 @@ search_calls world scope deeper outer (inside d a rest) =
 search_calls world scope deeper outer (call path name bang d a rest) =
     followed_by
     (at_call world scope deeper outer path name
-    (record { at = name.span; whole = whole_call path name bang d (unmarked a);
-        argument = unmarked a })
+    (record {
+      at = name.span;
+      whole = whole_call path name bang d (unmarked a);
+      argument = unmarked a;
+    })
     (followed_by (just outer (walk (before_group path name bang)))
-        (grouped outer d (search_calls world scope deeper outer a))))
+    (grouped outer d (search_calls world scope deeper outer a))))
     (search_calls world scope deeper outer rest)
 
 -- the expansion of a forest with n levels left, under the name of an outermost call or none

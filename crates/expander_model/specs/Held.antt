@@ -141,8 +141,10 @@ present (met m) = defining (present_definition m)
 module _ (world : World Definition) (depth : ℕ) (number_of : Forest → ℕ) where
   -- a piece that is this definition, with its place and id
   abbrev pub met_of : Forest → Definition → Met
-  met_of piece d = record { place = first_place piece;
-      numbered = record { number = number_of (relative piece); definition = d } }
+  met_of piece d = record {
+    place = first_place piece;
+    numbered = record { number = number_of (relative piece); definition = d };
+  }
 
   -- the definitions so far with that of one more piece, if it is one
   abbrev pub with_met : Forest → Option Definition → List Met → List Met

@@ -69,8 +69,12 @@ module _ (layers : Layers) where
       ++ (nested (tokens_of ms) ++ unspellable (left_out layers.spelling (output ms))))
 
   abbrev pub meaning_of : List Member → ReadMeaning
-  meaning_of ms = record { members = ms; tokens = tokens_of ms; text = text_of (tokens_of ms);
-      faults = faults_of ms }
+  meaning_of ms = record {
+    members = ms;
+    tokens = tokens_of ms;
+    text = text_of (tokens_of ms);
+    faults = faults_of ms;
+  }
 
 module _ (layers : Layers) (depth : ℕ) where
   -- a piece in the scope of the definitions before it, which are given nearest first

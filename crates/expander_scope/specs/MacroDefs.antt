@@ -10,9 +10,11 @@ use Rattle.expander_model.specs.Held.{Numbered}
 abbrev pub definition_in : Forest → Definition
 definition_in tree =
     unwrap_or (definition_of tree) (record {
-      name = record { sym = [];
-          span = record { range = record { start = 0; «end» = 0 }; anchor = 0; ctx = Written };
-          is_raw = No };
+      name = record {
+        sym = [];
+        span = record { range = record { start = 0; «end» = 0 }; anchor = 0; ctx = Written };
+        is_raw = No;
+      };
       arguments = None;
       body = empty;
       is_macro = false;

@@ -26,8 +26,10 @@ use Rattle.tt.specs.Tops.{Top}
 
 -- a plain piece, as the count sees it
 abbrev pub looked_plain : Memo → Looked
-looked_plain q = record { tree = (tree_of q).inner;
-    finds = map (λ f. (f.0, option_map (λ (d : Numbered). d.definition.piece) f.1)) (finds_of q) }
+looked_plain q = record {
+  tree = (tree_of q).inner;
+  finds = map (λ f. (f.0, option_map (λ (d : Numbered). d.definition.piece) f.1)) (finds_of q);
+}
 
 -- the plain pieces, as the count sees them: none before the first text that was read
 abbrev pub held_in : code.Cache → Option (List Looked)

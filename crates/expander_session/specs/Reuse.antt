@@ -49,8 +49,10 @@ pub record IsHeld (world : World Definition) (depth : ℕ) (table : Forest → �
 -- the piece as the count sees it
 abbrev pub looked_at : Forest → Outcome Numbered → Looked
 looked_at tree outcome =
-    record { tree = tree;
-    finds = map (λ f. (f.0, option_map (λ (d : Numbered). d.definition.piece) f.1)) outcome.finds }
+    record {
+      tree = tree;
+      finds = map (λ f. (f.0, option_map (λ (d : Numbered). d.definition.piece) f.1)) outcome.finds;
+    }
 
 -- a cached piece as the count sees it
 abbrev pub looked_held : HeldPiece → Looked

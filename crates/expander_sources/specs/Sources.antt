@@ -132,7 +132,7 @@ source_code =
     code_by (ℕ × (Option Home × List Item))
     (coded× coded_ℕ (coded× (coded_option home_code) (coded_list item_code)))
     (λ s. (s.number, (s.home, s.items)))
-        (λ p. record { number = p.0; home = p.1.0; items = p.1.1 }) (λ _. refl)
+    (λ p. record { number = p.0; home = p.1.0; items = p.1.1 }) (λ _. refl)
 
 -- the definition of this index: an empty piece where there are fewer
 abbrev pub item_at : List Item → ℕ → Item

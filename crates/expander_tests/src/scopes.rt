@@ -113,8 +113,7 @@ fn expanded_with(
 // finds a changed definition is expanded anew.
 #[test]
 fn own_names_are_no_look_ups(rt: HostRuntime) -> Result<(), Fail> {
-    let text =
-        "macro_rules! m { () => { 0 } } fn f() { macro_rules! m { () => { 1 } } m!{} } \
+    let text = "macro_rules! m { () => { 0 } } fn f() { macro_rules! m { () => { 1 } } m!{} } \
          fn g() { m!{} }";
     let mut session = scoped(rt.alloc(), text, ScopeRules::Rust)?;
     let first = found(&mut session)?;

@@ -128,7 +128,7 @@ module _ (fold : List ℕ) (names : List (List ℕ)) where
   expansion_from gaps place rest (t ∷ ts) =
       word_parts (first_gap gaps) place t.kind (take t.len rest)
       ++ expansion_from (other_gaps gaps)
-          (place_after (first_gap gaps) place t.kind (take t.len rest)) (drop t.len rest) ts
+      (place_after (first_gap gaps) place t.kind (take t.len rest)) (drop t.len rest) ts
 
   -- the parts of a printed text with these gaps, and these origins of its tokens, of these numbers
   abbrev pub expansion_parts : List Gap → (numbers : List ℕ) → List Origin → (printed : List ℕ)

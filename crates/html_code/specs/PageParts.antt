@@ -34,7 +34,7 @@ counts_of bytes faults (Some printed) =
     codes "bytes: " ++ (decimal bytes
     ++ (codes ", printed tokens: " ++ (decimal (length printed.origins.now)
     ++ (codes ", expanded anew: "
-        ++ (decimal printed.expanded ++ (codes ", faults: " ++ decimal faults))))))
+    ++ (decimal printed.expanded ++ (codes ", faults: " ++ decimal faults))))))
 
 -- a printed text of at most `u32::MAX` bytes, if any
 abbrev pub IsShort : Option Printed → Type 0
@@ -60,8 +60,8 @@ module _ (frame : Frame) where
   AddsPrinted old new starts (Some printed) =
       (numbers : List ℕ) × AreOriginNumbers starts printed.origins.now numbers × (gaps : List Gap)
       × (new ≡ old ++ html_of
-          (expansion_parts (fold_of (length printed.origins.now))
-          (map string_bytes printed.names.now)
+      (expansion_parts (fold_of (length printed.origins.now))
+      (map string_bytes printed.names.now)
       gaps numbers printed.origins.now printed.text.now))
 
   -- a page: its bytes up to the expansion, up to the links, and all
@@ -72,9 +72,9 @@ module _ (frame : Frame) where
     pub is_shown :
         AddsPrinted
         (html_of (head_parts page.title.now)
-            ++ counts_of (length page.text.now) (length page.faults.now) page.printed
+        ++ counts_of (length page.text.now) (length page.faults.now) page.printed
         ++ frame.source.now ++ html_of (source_parts cuts page.faults.now page.text.now)
-            ++ frame.expansion.now)
+        ++ frame.expansion.now)
         shown (token_starts page.text.now) page.printed
     pub is_linked : AddsLinks (shown ++ frame.faults.now) linked
         (token_starts page.text.now) page.faults.now

@@ -56,8 +56,10 @@ parts_of Code cut at number stop word = token_part at.behind
 
 abbrev pub point_after : Class → Point → (number stop : ℕ) → List ℕ → Point
 point_after Code at number stop word =
-    record { faults = faults_from at.faults stop;
-    behind = ends_word at.behind (attributes_of at.faults number stop) word }
+    record {
+      faults = faults_from at.faults stop;
+      behind = ends_word at.behind (attributes_of at.faults number stop) word;
+    }
 point_after _ at number stop word = record { faults = at.faults; behind = false }
 
 abbrev pub count_after : Class → ℕ → ℕ
@@ -76,7 +78,7 @@ source_from cuts at count start rest [] = []
 source_from cuts at count start rest (t ∷ ts) =
     parts_of (class_of t.kind) (first_cut cuts) at (count + 1) (start + t.len) (take t.len rest)
     ++ source_from (drop 1 cuts)
-        (point_after (class_of t.kind) at (count + 1) (start + t.len) (take t.len rest))
+    (point_after (class_of t.kind) at (count + 1) (start + t.len) (take t.len rest))
     (count_after (class_of t.kind) count) (start + t.len) (drop t.len rest) ts
 
 -- the parts of a text with these faults
