@@ -56,11 +56,7 @@ pub fn is_items(standing: Standing) -> bool
 
 /// Whether conditional compilation leaves a piece of a list out, where the dialect has options for
 /// it: but not in the argument of a call that stays. Out of memory is its only error.
-pub fn is_out(
-    dialect: &Dialect,
-    standing: Standing,
-    piece: &TtIter<'_>,
-) -> Result<bool, AllocError>
+pub fn is_out(dialect: &Dialect, standing: Standing, piece: &TtIter<'_>) -> Result<bool, AllocError>
     ensures { IfOk result (λ out. out ≡ is_out dialect.now.cfg standing piece.now) }
 {
     match &dialect.cfg {
