@@ -33,6 +33,7 @@ use Rattle.expander_model.specs.WholeItems.{after_call, after_path, after_qualif
 use Rattle.expander_model.specs.WholeItems.{behind_colons, ends_in_body, ends_in_semicolon}
 use Rattle.expander_model.specs.WholeItems.{is_bodied, is_configured_out, is_end, is_extern_block}
 use Rattle.expander_model.specs.WholeItems.{is_path_call, is_short, is_whole_call, is_whole_item}
+use Rattle.expander_model.specs.WholeItems.{opened_after}
 use Rattle.expander_model.proofs.DefinitionPlaceLemmas.{after_attributes-with, after_pub-with}
 use Rattle.expander_model.proofs.DefinitionPlaceLemmas.{after_word-with, definition_of-with}
 use Rattle.expander_model.proofs.DefinitionPlaceLemmas.{is_empty-with, is_semicolon-with}
@@ -83,8 +84,8 @@ module _ (f : Span → Span) where
   cut-with empty (group d a rest) = refl
   cut-with (leaf l rest) begun =
       ap (λ (b : Bool). if b then map_spans f begun ∷ cut_at_commas (map_spans f rest) empty
-          else cut_at_commas (map_spans f rest)
-          (joined (map_spans f begun) (leaf (leaf_with f l) empty))) (is_punct-with "," l)
+      else cut_at_commas (map_spans f rest)
+      (joined (map_spans f begun) (leaf (leaf_with f l) empty))) (is_punct-with "," l)
       ∙ either-with (map (map_spans f)) (is_punct "," l)
       (begun ∷ cut_at_commas rest empty) (cut_at_commas rest (joined begun (leaf l empty))) _ _
       (ap (λ ps. map_spans f begun ∷ ps) (cut-with rest empty))
@@ -153,16 +154,17 @@ module _ (f : Span → Span) where
 
   -- ---- whole items
 
-  ends_in_body-with : (n : ℕ) (arrow : Bool) (g : Forest)
+  ends_in_body-with : (g : Forest) (n : ℕ) (arrow : Bool)
       → ends_in_body n arrow (map_spans f g) ≡ ends_in_body n arrow g
-  ends_in_body-with n arrow empty = refl
-  ends_in_body-with n arrow (leaf (as_leaf.Ident i) rest) = ends_in_body-with _ _ rest
-  ends_in_body-with n arrow (leaf (as_leaf.Punct p) rest) = ends_in_body-with _ _ rest
-  ends_in_body-with n arrow (leaf (as_leaf.Literal l) rest) = ends_in_body-with _ _ rest
-  ends_in_body-with n arrow (group d a empty) = refl
-  ends_in_body-with n arrow (group d a (leaf l rest)) = ends_in_body-with n false (leaf l rest)
-  ends_in_body-with n arrow (group d a (group e b rest)) =
-      ends_in_body-with n false (group e b rest)
+  ends_in_body-with empty n arrow = refl
+  ends_in_body-with (leaf (as_leaf.Ident i) rest) n arrow = ends_in_body-with rest n false
+  ends_in_body-with (leaf (as_leaf.Punct p) rest) n arrow =
+      ends_in_body-with rest (opened_after n arrow (as_leaf.Punct p)) (is_char "-" p)
+  ends_in_body-with (leaf (as_leaf.Literal l) rest) n arrow = ends_in_body-with rest n false
+  ends_in_body-with (group d a empty) n arrow = refl
+  ends_in_body-with (group d a (leaf l rest)) n arrow = ends_in_body-with (leaf l rest) n false
+  ends_in_body-with (group d a (group e b rest)) n arrow =
+      ends_in_body-with (group e b rest) n false
 
   ends_in_semicolon-with : (g : Forest) → ends_in_semicolon (map_spans f g) ≡ ends_in_semicolon g
   ends_in_semicolon-with empty = refl
@@ -197,9 +199,9 @@ module _ (f : Span → Span) where
   after_qualifiers-with (leaf (as_leaf.Literal l) rest) = after_qualifiers-with rest
   after_qualifiers-with (leaf (as_leaf.Ident w) rest) =
       let words : List String =
-          "const" ∷ "async" ∷ "unsafe" ∷ "safe" ∷ "auto" ∷ "extern" ∷ [] in
+      "const" ∷ "async" ∷ "unsafe" ∷ "safe" ∷ "auto" ∷ "extern" ∷ [] in
       ap (λ (b : Bool). if b then after_qualifiers (map_spans f rest)
-          else map_spans f (leaf (as_leaf.Ident w) rest))
+      else map_spans f (leaf (as_leaf.Ident w) rest))
       (begins_with-with words (leaf (as_leaf.Ident w) empty))
       ∙ either-with (map_spans f) (begins_with words (leaf (as_leaf.Ident w) empty))
       (after_qualifiers rest) (leaf (as_leaf.Ident w) rest) _ _ (after_qualifiers-with rest) refl
@@ -207,17 +209,17 @@ module _ (f : Span → Span) where
   is_bodied-with : (g : Forest) → is_bodied (map_spans f g) ≡ is_bodied g
   is_bodied-with g =
       let words : List String =
-          "fn" ∷ "struct" ∷ "enum" ∷ "union" ∷ "trait" ∷ "impl" ∷ "mod" ∷ [] in
+      "fn" ∷ "struct" ∷ "enum" ∷ "union" ∷ "trait" ∷ "impl" ∷ "mod" ∷ [] in
       ap (λ (h : Forest). begins_with words h
-        && (ends_in_body 0 false (map_spans f g) || ends_in_semicolon (map_spans f g)))
+      && (ends_in_body 0 false (map_spans f g) || ends_in_semicolon (map_spans f g)))
       (after_qualifiers-with g)
       ∙ ap (λ (b : Bool). b
-        && (ends_in_body 0 false (map_spans f g) || ends_in_semicolon (map_spans f g)))
+      && (ends_in_body 0 false (map_spans f g) || ends_in_semicolon (map_spans f g)))
       (begins_with-with words (after_qualifiers g))
       ∙ ap (λ (b : Bool). begins_with words (after_qualifiers g)
-        && (b || ends_in_semicolon (map_spans f g))) (ends_in_body-with 0 false g)
+      && (b || ends_in_semicolon (map_spans f g))) (ends_in_body-with g 0 false)
       ∙ ap (λ (b : Bool). begins_with words (after_qualifiers g)
-        && (ends_in_body 0 false g || b)) (ends_in_semicolon-with g)
+      && (ends_in_body 0 false g || b)) (ends_in_semicolon-with g)
 
   -- what follows something, if that is there, or all
   behind-with : (o o' : Option Forest) (g : Forest) → o' ≡ option_map (map_spans f) o
@@ -234,19 +236,19 @@ module _ (f : Span → Span) where
   is_extern_block-with g =
       let behind : Forest = unwrap_or (after_word (codes "unsafe") g) g in
       ap (λ (h : Forest). begins_with ("extern" ∷ []) h
-          && ends_in_body 0 false (after_qualifiers (map_spans f g))
-          && is_some (first_group (after_qualifiers (map_spans f g))))
+      && ends_in_body 0 false (after_qualifiers (map_spans f g))
+      && is_some (first_group (after_qualifiers (map_spans f g))))
       (behind-with (after_word (codes "unsafe") g) _ g (after_word-with f (codes "unsafe") g))
       ∙ ap (λ (b : Bool). b && ends_in_body 0 false (after_qualifiers (map_spans f g))
-          && is_some (first_group (after_qualifiers (map_spans f g))))
+      && is_some (first_group (after_qualifiers (map_spans f g))))
       (begins_with-with ("extern" ∷ []) behind)
       ∙ ap (λ (h : Forest). begins_with ("extern" ∷ []) behind && ends_in_body 0 false h
-          && is_some (first_group h)) (after_qualifiers-with g)
+      && is_some (first_group h)) (after_qualifiers-with g)
       ∙ ap (λ (b : Bool). begins_with ("extern" ∷ []) behind && b
-          && is_some (first_group (map_spans f (after_qualifiers g))))
-      (ends_in_body-with 0 false (after_qualifiers g))
+      && is_some (first_group (map_spans f (after_qualifiers g))))
+      (ends_in_body-with (after_qualifiers g) 0 false)
       ∙ ap (λ (b : Bool). begins_with ("extern" ∷ []) behind
-          && ends_in_body 0 false (after_qualifiers g) && b) (group-with (after_qualifiers g))
+      && ends_in_body 0 false (after_qualifiers g) && b) (group-with (after_qualifiers g))
 
   is_short-with : (g : Forest) → is_short (map_spans f g) ≡ is_short g
   is_short-with g =
@@ -256,7 +258,7 @@ module _ (f : Span → Span) where
 
   second_colon-with : (first : Punct) (g : Forest)
       → (first_punct (map_spans f g)
-        >>= (λ x. is_colons (record first { span = f first.span }) x.0 >> Some x.1))
+      >>= (λ x. is_colons (record first { span = f first.span }) x.0 >> Some x.1))
       ≡ option_map (map_spans f) (first_punct g >>= (λ x. is_colons first x.0 >> Some x.1))
   second_colon-with first empty = refl
   second_colon-with first (group d a rest) = refl
@@ -351,11 +353,11 @@ module _ (f : Span → Span) where
   is_item-with : (g : Forest) → is_item (map_spans f g) ≡ is_item g
   is_item-with g =
       ap (λ (b : Bool). b || (is_extern_block (map_spans f g)
-        || (is_short (map_spans f g) || is_whole_call (map_spans f g)))) (is_bodied-with g)
+      || (is_short (map_spans f g) || is_whole_call (map_spans f g)))) (is_bodied-with g)
       ∙ ap (λ (b : Bool). is_bodied g || (b
-        || (is_short (map_spans f g) || is_whole_call (map_spans f g)))) (is_extern_block-with g)
+      || (is_short (map_spans f g) || is_whole_call (map_spans f g)))) (is_extern_block-with g)
       ∙ ap (λ (b : Bool). is_bodied g || (is_extern_block g
-        || (b || is_whole_call (map_spans f g)))) (is_short-with g)
+      || (b || is_whole_call (map_spans f g)))) (is_short-with g)
       ∙ ap (λ (b : Bool). is_bodied g || (is_extern_block g || (is_short g || b)))
       (is_whole_call-with g)
 
@@ -389,7 +391,7 @@ module _ (options : Options) (text : LiteralParts → Option (List ℕ))
   option_in-with
       (leaf (as_leaf.Ident i) (leaf (as_leaf.Punct p) (leaf (as_leaf.Literal l) empty))) =
       ap (λ (o : Option (List ℕ)). is_option_name i
-        >> (is_char "=" p >> (o >>= (λ value. Some (i.sym, Some value))))) (same f l)
+      >> (is_char "=" p >> (o >>= (λ value. Some (i.sym, Some value))))) (same f l)
   option_in-with
       (leaf (as_leaf.Ident i) (leaf (as_leaf.Punct p) (leaf (as_leaf.Literal l) (leaf m rest)))) =
       refl
@@ -401,10 +403,10 @@ module _ (options : Options) (text : LiteralParts → Option (List ℕ))
       → option_value options text (map_spans f p) ≡ option_value options text p
   option_value-with p =
       ap (λ (o : Option Bool). or_else o
-        (option_map (λ option. options option.0 option.1) (option_in text (map_spans f p))))
+      (option_map (λ option. options option.0 option.1) (option_in text (map_spans f p))))
       (constant-with f p)
       ∙ ap (λ (o : Option (List ℕ × Option (List ℕ))). or_else (constant p)
-        (option_map (λ option. options option.0 option.1) o)) (option_in-with p)
+      (option_map (λ option. options option.0 option.1) o)) (option_in-with p)
 
   value_within-with : (n : ℕ) (p : Forest)
       → value_within options text n (map_spans f p) ≡ value_within options text n p
@@ -416,19 +418,19 @@ module _ (options : Options) (text : LiteralParts → Option (List ℕ))
       let values : String → Forest → Option (List Bool) = listed_values value in
       let there : Forest = map_spans f p in
       ap (λ (o : Option Bool). or_else o (or_else (option_map of_all (values "all" there))
-        (or_else (option_map of_any (values "any" there)) (values "not" there >>= negated))))
+      (or_else (option_map of_any (values "any" there)) (values "not" there >>= negated))))
       (option_value-with p)
       ∙ ap (λ (o : Option (List Bool)). or_else (option_value options text p)
-        (or_else (option_map of_all o)
-        (or_else (option_map of_any (values "any" there)) (values "not" there >>= negated))))
+      (or_else (option_map of_all o)
+      (or_else (option_map of_any (values "any" there)) (values "not" there >>= negated))))
       (listed_values-with f value (value_within-with n) "all" p)
       ∙ ap (λ (o : Option (List Bool)). or_else (option_value options text p)
-        (or_else (option_map of_all (values "all" p))
-        (or_else (option_map of_any o) (values "not" there >>= negated))))
+      (or_else (option_map of_all (values "all" p))
+      (or_else (option_map of_any o) (values "not" there >>= negated))))
       (listed_values-with f value (value_within-with n) "any" p)
       ∙ ap (λ (o : Option (List Bool)). or_else (option_value options text p)
-        (or_else (option_map of_all (values "all" p))
-        (or_else (option_map of_any (values "any" p)) (o >>= negated))))
+      (or_else (option_map of_all (values "all" p))
+      (or_else (option_map of_any (values "any" p)) (o >>= negated))))
       (listed_values-with f value (value_within-with n) "not" p)
 
   predicate_value-with : (p : Forest)
@@ -453,7 +455,7 @@ module _ (options : Options) (text : LiteralParts → Option (List ℕ))
   cfg_attr_keeps-with keeps same_kept (Some []) = refl
   cfg_attr_keeps-with keeps same_kept (Some (p ∷ attributes)) =
       ap (λ (b : Option Bool). not (unwrap_or b false)
-        || list_all keeps (map (map_spans f) attributes)) (predicate_value-with p)
+      || list_all keeps (map (map_spans f) attributes)) (predicate_value-with p)
       ∙ ap (λ (b : Bool). not (unwrap_or (predicate_value options text p) false) || b)
       (all-with (map_spans f) keeps same_kept attributes)
 
@@ -463,13 +465,13 @@ module _ (options : Options) (text : LiteralParts → Option (List ℕ))
   attribute_keeps-with (suc n) a =
       let keeps : Forest → Bool = attribute_keeps options text n in
       ap (λ (o : Option (List Forest)). cfg_keeps options text o
-        && cfg_attr_keeps options text keeps (listed "cfg_attr" (map_spans f a)))
+      && cfg_attr_keeps options text keeps (listed "cfg_attr" (map_spans f a)))
       (listed-with f "cfg" a)
       ∙ ap (λ (b : Bool). b
-        && cfg_attr_keeps options text keeps (listed "cfg_attr" (map_spans f a)))
+      && cfg_attr_keeps options text keeps (listed "cfg_attr" (map_spans f a)))
       (cfg_keeps-with (listed "cfg" a))
       ∙ ap (λ (o : Option (List Forest)). cfg_keeps options text (listed "cfg" a)
-        && cfg_attr_keeps options text keeps o) (listed-with f "cfg_attr" a)
+      && cfg_attr_keeps options text keeps o) (listed-with f "cfg_attr" a)
       ∙ ap (λ (b : Bool). cfg_keeps options text (listed "cfg" a) && b)
       (cfg_attr_keeps-with keeps (attribute_keeps-with n) (listed "cfg_attr" a))
 
@@ -491,19 +493,19 @@ module _ (options : Options) (text : LiteralParts → Option (List ℕ))
   kept-with (leaf (as_leaf.Punct p) (leaf l rest)) = refl
   kept-with (leaf (as_leaf.Punct p) (group d a rest)) =
       ap (λ (b : Bool). not (is_char "#" p && same_kind d.kind Bracket)
-        || (b && is_kept options text (map_spans f rest))) (brackets-with a)
+      || (b && is_kept options text (map_spans f rest))) (brackets-with a)
       ∙ ap (λ (b : Bool). not (is_char "#" p && same_kind d.kind Bracket)
-        || (attribute_keeps options text (suc (size a)) a && b)) (kept-with rest)
+      || (attribute_keeps options text (suc (size a)) a && b)) (kept-with rest)
 
   pub left_out-with : (items : Bool) (piece : Forest)
       → is_configured_out options text items (map_spans f piece)
       ≡ is_configured_out options text items piece
   left_out-with items piece =
       ap (λ (b : Bool). not b && (is_some (definition_of (map_spans f piece))
-        || (items && is_whole_item (map_spans f piece)))) (kept-with piece)
+      || (items && is_whole_item (map_spans f piece)))) (kept-with piece)
       ∙ ap (λ (b : Bool). not (is_kept options text piece)
-        && (b || (items && is_whole_item (map_spans f piece))))
+      && (b || (items && is_whole_item (map_spans f piece))))
       (ap is_some (definition_of-with f piece)
       ∙ some-with (definition_with f) (definition_of piece))
       ∙ ap (λ (b : Bool). not (is_kept options text piece)
-        && (is_some (definition_of piece) || (items && b))) (whole-with f piece)
+      && (is_some (definition_of piece) || (items && b))) (whole-with f piece)

@@ -19,5 +19,4 @@ pub fn conditions_look_at_no_place()
     ensures { (options : Options) (f : Span → Span) (items : Bool) (piece : Forest)
         → is_configured_out options string_text items (map_spans f piece)
         ≡ is_configured_out options string_text items piece }
-{
-}
+{}
