@@ -9,7 +9,7 @@ use Rattle.tt_data.specs.Forest.{Forest, empty, leaf, group, joined, map_spans, 
 use Rattle.tt_data.specs.Literals.{LiteralParts}
 use Rattle.tt_data.specs.Spans.{leaf_with}
 use Rattle.tt_data.proofs.ForestLemmas.{map_spans-joined, size-map_spans}
-use Rattle.tt_data.specs.declared.delimiter.DelimiterKind.TheVariants.{Parenthesis, Bracket, Brace}
+use Rattle.tt_data.specs.declared.delimiter.DelimiterKind.TheVariants.{Parenthesis, Bracket}
 use Rattle.tt_data.specs.declared.leaf.Ident.{Ident}
 use Rattle.tt_data.specs.declared.leaf.Leaf.{Leaf}
 use Rattle.tt_data.specs.declared.leaf.Leaf.TheVariants as as_leaf
