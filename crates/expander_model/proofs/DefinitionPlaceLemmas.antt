@@ -98,7 +98,7 @@ module _ (f : Span → Span) where
       (λ r. ap Some (ap (λ (o : Option Forest). unwrap_or o (map_spans f r)) (after_parenthesis-with r) ∙ unwrap_or-with (after_parenthesis r) r))
       (after_word (codes "pub") g)
 
-  is_semicolon-with : (g : Forest) → is_semicolon (map_spans f g) ≡ is_semicolon g
+  pub is_semicolon-with : (g : Forest) → is_semicolon (map_spans f g) ≡ is_semicolon g
   is_semicolon-with empty = refl
   is_semicolon-with (group d a rest) = refl
   is_semicolon-with (leaf (as_leaf.Ident p) rest) = refl

@@ -9,5 +9,6 @@ mod RelativeSpanLemmas
 mod SamePieceLemmas
 pub mod PlaceLemmas
 pub mod DefinitionPlaceLemmas
+pub mod ConditionPlaceLemmas
 pub mod EditionLemmas
 mod CallAfterLemmas
