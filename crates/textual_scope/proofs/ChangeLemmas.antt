@@ -22,7 +22,7 @@ use Rattle.cfg_options.specs.Conditions.{or_else}
 use Rattle.cfg_options.specs.Options.{options_of}
 use Rattle.cfg_options.specs.Strings.{string_text}
 use Rattle.cfg_options.specs.declared.options.CfgOptions.{CfgOptions}
-use Rattle.expander_model.proofs.ConditionPlaceLemmas.{left_out-with, string_text-with}
+use Rattle.expander_model.proofs.ConditionPlaceLemmas.{left_out-with}
 use Rattle.expander_model.specs.Pieces.{cut}
 use Rattle.expander_model.specs.Expansion.{World, Outcome, CallSite, just, followed_by, grouped, faulted, found, bursting, before_group, whole_call}
 use Rattle.expander_model.specs.OtherPlaces.{definition_with}
@@ -57,16 +57,16 @@ definition_in-with f Rust g = definition_of-with f g
 pub is_out-with : (f : Span → Span) (cfg : Option CfgOptions) (standing : Standing) (g : Forest) → is_out cfg standing (map_spans f g) ≡ is_out cfg standing g
 is_out-with f None standing g = refl
 is_out-with f (Some options) Argument g = refl
-is_out-with f (Some options) Top g = left_out-with (options_of options) string_text string_text-with f true g
-is_out-with f (Some options) Enclosed g = left_out-with (options_of options) string_text string_text-with f false g
-is_out-with f (Some options) Items g = left_out-with (options_of options) string_text string_text-with f true g
+is_out-with f (Some options) Top g = left_out-with (options_of options) string_text (λ s l. refl) f true g
+is_out-with f (Some options) Enclosed g = left_out-with (options_of options) string_text (λ s l. refl) f false g
+is_out-with f (Some options) Items g = left_out-with (options_of options) string_text (λ s l. refl) f true g
 
 -- a definition is found at other spans too
 pub is_found-with : (f : Span → Span) (dialect : Dialect) (d : Definition) (name : List ℕ) → is_found dialect (definition_with f d) name ≡ is_found dialect d name
 is_found-with f dialect d name = ap (λ b. if b then false else same_text d.name.sym name) (is_out-with f dialect.cfg Top d.piece)
 
 -- what a piece is, at other spans
-kind_with : (Span → Span) → PieceKind → PieceKind
+abbrev kind_with : (Span → Span) → PieceKind → PieceKind
 kind_with f out_piece = out_piece
 kind_with f (definition_piece d) = definition_piece (definition_with f d)
 kind_with f plain_piece = plain_piece

@@ -28,7 +28,7 @@ use Rattle.textual_scope.specs.FromLeft.{is_begun, piece_ahead, with_leaf, with_
 use Rattle.expander_model.specs.Scoping.{Around, Scoped, Search, in_group, only, and_next, in_brackets, defined, out_piece, definition_piece, plain_piece, kind_in, at_call, kept_call, found_at, is_expanded, is_items, takes_end, search_leaf, search_trees, search_piece, search_pieces}
 use Rattle.textual_scope.proofs.ChainLemmas.{chain, IsShut, IsEnd, end_leaf, end_at_leaf, end_at_group, end_behind, leaf_chain, shut_leaf}
 use Rattle.textual_scope.proofs.MarkLemmas.{unmarked-marked}
-use Rattle.textual_scope.proofs.ResultLemmas.{and_next_assoc, and_nothing}
+use Rattle.textual_scope.proofs.ResultLemmas.{nothing_and, and_next_assoc, and_nothing}
 
 -- ---- what came of a piece, by its trees
 
