@@ -19,6 +19,7 @@ use Rattle.expander_model.specs.PieceStates.{after_leaf, after_group, after_name
 use Rattle.expander_model.specs.Scoping.{Around as Surroundings, Scoped, out_piece, definition_piece, kind_of, kind_in, and_next, defined, definition_in, in_brackets, in_group, only}
 use Rattle.cfg_options.specs.declared.options.CfgOptions.{CfgOptions}
 use Rattle.expander_model.specs.declared.dialect.Dialect.{Dialect}
+use Rattle.expander_model.specs.Pieces.{cut}
 use Rattle.expander_model.specs.WalkSteps.{Enters, GoesOn, groups_of}
 use Rattle.expander_model.specs.declared.tree_walk.TreeWalk.{TreeWalk}
 use Rattle.bridge.specs.TokenEvents.{step_of}
@@ -214,10 +215,10 @@ module _ (dialect : Dialect) (world : World Numbered) (scope : List ℕ → Opti
     }
 
     -- a piece that is left out was passed
-    pub goes_out : (rest : Forest) → p.begun ≡ Nothing → IsOutAhead dialect.cfg p.standing p.here (Some rest)
+    pub goes_past : (rest : Forest) → p.begun ≡ Nothing → IsOutAhead dialect.cfg p.standing p.here (Some rest)
         → after.trees.here ≡ rest → groups_of after.trees ≡ groups_of before.trees → after.begun ≡ before.begun → after.standing ≡ before.standing
         → after.levels ≡ before.levels → new ≡ old → Goes dialect world scope depth outer edition Has (whole_left p) old new before after
-    goes_out rest nothing out here groups begun standing levels same = record {
+    goes_past rest nothing out here groups begun standing levels same = record {
       next = record p { here = rest };
       at = record {
         here = here;

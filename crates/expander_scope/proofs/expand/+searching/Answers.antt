@@ -3,7 +3,7 @@ use Rattle.tt_data.specs.Forest.{leaf}
 use Rattle.tt_data.specs.Lent.{leaf_lent}
 use Rattle.expander_model.specs.Definitions.{definition_of}
 use Rattle.expander_model.specs.Scoping.{defined}
-use Rattle.std.specs.Prelude.{Some, Ok, Err, OnOk}
+use Rattle.std.specs.Prelude.{None, Some, Ok, Err, OnOk}
 use Rattle.expander_model.specs.Held.{numbered_world, unnumbered}
 use Rattle.expander_model.specs.World.{world}
 use Rattle.expander_scope.specs.Expanding.{Adds, answer, around_in, searched, searched_under, world_under}
@@ -14,7 +14,7 @@ use Rattle.expander_scope.specs.declared.expand.Search.{Search}
 use Rattle.expander_scope.specs.Outcomes.{numbered_of_known}
 use Rattle.expander_scope.specs.ScopeTable.{scope_in}
 use Rattle.expander_scope.proofs.CallResultLemmas.{adds_just}
-use Rattle.expander_scope.proofs.GoesLemmas.{at_mid, goes_comes, goes_leaf, goes_on_behind, goes_stays, goes_unknown, going_bursts, going_done, going_first, going_on, group_begins, goes_colons, colons_before, colons_open, colons_group, no_call_at, ok_three, plain_at, opened_so, opens_before, answer_too_many, result_too_many, some_from}
+use Rattle.expander_scope.proofs.GoesLemmas.{at_mid, goes_past, out_at, goes_comes, goes_leaf, goes_on_behind, goes_stays, goes_unknown, going_bursts, going_done, going_first, going_on, group_begins, goes_colons, colons_before, colons_open, colons_group, no_call_at, ok_three, plain_at, opened_so, opens_before, answer_too_many, result_too_many, some_from}
 use Rattle.expander_scope.proofs.HandedLemmas.{handed}
 use Rattle.expander_scope.proofs.TurnLemmas.{call_opened, call_passed, colons_opened}
 use Rattle.expander_scope.proofs.expand.+searching.Goals as goal
@@ -108,14 +108,25 @@ search_list-turns-init g t c =
 pub search_list-turns-preserved-in-Some : goal.search_list-turns-preserved-in-Some
 search_list-turns-preserved-in-Some g t c =
     let G = c.turns.invariant in
-    let some = c.in-Some.ensures.some in
-    let (d, is) = some_from (definition_of c.in-Some.piece) some.2.1.0 in
+    let some = rw c.in-Some.is at c.in_ok-rest.ensures.some in
+    going_on c.args.env.now.dialect.now (world_under (g.G.FragmentGrammar.answer c.args.env.now.grammar.now) c.args.env.now.scope.now c.args.env.now.dialect.now) (scope_in c.args.env.now.scope.now) c.args.env.now.depth c.args.outer c.args.env.now.scope.now.edition g.S.EventSink.has_taken
+    _ c.args.search.now c.turns.search _ c.turns.walk _ G
+    (goes_past c.args.env.now.dialect.now (world_under (g.G.FragmentGrammar.answer c.args.env.now.grammar.now) c.args.env.now.scope.now c.args.env.now.dialect.now) (scope_in c.args.env.now.scope.now) c.args.env.now.depth c.args.outer c.args.env.now.scope.now.edition g.S.EventSink.has_taken
+    c.turns.search _ c.turns.walk _ G.place G.at c.in-Some.rest (sym G.at.begun ∙ some.0)
+    (out_at c.turns.walk c.turns.search.locals G.place G.at c.args.env.now.dialect.now.cfg (Some c.in-Some.rest) some.1)
+    c.go_on.ensures.here c.go_on.ensures.groups refl refl refl refl)
+
+pub search_list-turns-preserved-in-Some-piece_ahead : goal.search_list-turns-preserved-in-Some-piece_ahead
+search_list-turns-preserved-in-Some-piece_ahead g t c =
+    let G = c.turns.invariant in
+    let some = c.in-Some-piece_ahead.ensures.some in
+    let (d, is) = some_from (definition_of c.in-Some-piece_ahead.piece) some.2.1.0 in
     going_on c.args.env.now.dialect.now (world_under (g.G.FragmentGrammar.answer c.args.env.now.grammar.now) c.args.env.now.scope.now c.args.env.now.dialect.now) (scope_in c.args.env.now.scope.now) c.args.env.now.depth c.args.outer c.args.env.now.scope.now.edition g.S.EventSink.has_taken
     _ c.args.search.now c.turns.search c.define.new.search c.turns.walk _ G
     (goes_on_behind c.args.env.now.dialect.now (world_under (g.G.FragmentGrammar.answer c.args.env.now.grammar.now) c.args.env.now.scope.now c.args.env.now.dialect.now) (scope_in c.args.env.now.scope.now) c.args.env.now.depth c.args.outer c.args.env.now.scope.now.edition g.S.EventSink.has_taken
-    c.turns.search c.define.new.search c.turns.walk _ G.place G.at d c.in-Some.piece c.in-Some.rest
-    (out_at c.turns.walk c.turns.search.locals G.place G.at c.args.env.now.dialect.now.cfg None (c.in_default-OUT.ensures.none some.0)) some.1 (sym G.at.begun ∙ some.0) (subst (λ f. IsAhead f (Some (c.in-Some.piece, c.in-Some.rest))) G.at.here some.2) is
-    c.go_on.ensures.here c.go_on.ensures.groups refl refl refl
+    c.turns.search c.define.new.search c.turns.walk _ G.place G.at d c.in-Some-piece_ahead.piece c.in-Some-piece_ahead.rest
+    (out_at c.turns.walk c.turns.search.locals G.place G.at c.args.env.now.dialect.now.cfg None (c.in_ok-rest.ensures.none c.in_default.is some.0)) some.1 (sym G.at.begun ∙ some.0) (subst (λ f. IsAhead f (Some (c.in-Some-piece_ahead.piece, c.in-Some-piece_ahead.rest))) G.at.here some.2) is
+    c.go_on-in-Some-piece_ahead.ensures.here c.go_on-in-Some-piece_ahead.ensures.groups refl refl refl
     (c.in_ok-define.ensures.locals d is) c.in_ok-define.ensures.read
     (subst (λ s. Adds g.S.EventSink.has_taken c.turns.search.out c.define.new.search.out
     (defined c.args.env.now.dialect.now (world_under (g.G.FragmentGrammar.answer c.args.env.now.grammar.now) c.args.env.now.scope.now c.args.env.now.dialect.now) unnumbered (scope_in c.args.env.now.scope.now) (record { standing = s; outer = c.args.outer; locals = G.place.locals }) d).outcome) G.at.standing
@@ -124,20 +135,20 @@ search_list-turns-preserved-in-Some g t c =
 pub search_list-turns-smaller-in_ok-expand_call-in-Call : goal.search_list-turns-smaller-in_ok-expand_call-in-Call
 search_list-turns-smaller-in_ok-expand_call-in-Call g t c =
     let G = c.turns.invariant in
-    (c.in_ok-expand_call-in-Call.ensures.turn G.place G.at (plain_at c.turns.walk c.turns.search.locals G.place G.at c.args.env.now.dialect.now c.in_default-OUT.ensures.none c.in_default.ensures.none)).less
+    (c.in_ok-expand_call-in-Call.ensures.turn G.place G.at (plain_at c.turns.walk c.turns.search.locals G.place G.at c.args.env.now.dialect.now (c.in_ok-rest.ensures.none c.in_default.is) c.in_default-piece_ahead.ensures.none)).less
 
 pub search_list-turns-preserved-in_ok-expand_call-in-Call : goal.search_list-turns-preserved-in_ok-expand_call-in-Call
 search_list-turns-preserved-in_ok-expand_call-in-Call g t c =
     let G = c.turns.invariant in
     going_on c.args.env.now.dialect.now (world_under (g.G.FragmentGrammar.answer c.args.env.now.grammar.now) c.args.env.now.scope.now c.args.env.now.dialect.now) (scope_in c.args.env.now.scope.now) c.args.env.now.depth c.args.outer c.args.env.now.scope.now.edition g.S.EventSink.has_taken
     _ c.args.search.now c.turns.search c.expand_call.new.search c.turns.walk c.expand_call.new.walk G
-    (c.in_ok-expand_call-in-Call.ensures.turn G.place G.at (plain_at c.turns.walk c.turns.search.locals G.place G.at c.args.env.now.dialect.now c.in_default-OUT.ensures.none c.in_default.ensures.none))
+    (c.in_ok-expand_call-in-Call.ensures.turn G.place G.at (plain_at c.turns.walk c.turns.search.locals G.place G.at c.args.env.now.dialect.now (c.in_ok-rest.ensures.none c.in_default.is) c.in_default-piece_ahead.ensures.none))
 
 pub search_list-returns-in_err-expand_call-in-Call-clause-tokens : goal.search_list-returns-in_err-expand_call-in-Call-clause-tokens
 search_list-returns-in_err-expand_call-in-Call-clause-tokens g t c = λ e.
     let G = c.turns.invariant in
     going_bursts c.args.env.now.dialect.now (world_under (g.G.FragmentGrammar.answer c.args.env.now.grammar.now) c.args.env.now.scope.now c.args.env.now.dialect.now) (scope_in c.args.env.now.scope.now) c.args.env.now.depth c.args.outer c.args.env.now.scope.now.edition g.S.EventSink.has_taken _ c.args.search.now c.turns.search c.turns.walk G
-    (c.in_err-expand_call-in-Call.ensures.tokens (handed c.from_residual-in_err-expand_call-in-Call.result _ c.from_residual-in_err-expand_call-in-Call.ensures.1 e) G.place G.at (plain_at c.turns.walk c.turns.search.locals G.place G.at c.args.env.now.dialect.now c.in_default-OUT.ensures.none c.in_default.ensures.none))
+    (c.in_err-expand_call-in-Call.ensures.tokens (handed c.from_residual-in_err-expand_call-in-Call.result _ c.from_residual-in_err-expand_call-in-Call.ensures.1 e) G.place G.at (plain_at c.turns.walk c.turns.search.locals G.place G.at c.args.env.now.dialect.now (c.in_ok-rest.ensures.none c.in_default.is) c.in_default-piece_ahead.ensures.none))
 
 pub search_list-keep_call-requires : goal.search_list-keep_call-requires
 search_list-keep_call-requires g t c = colons_opened c.turns.walk.trees.here c.in-BehindColons.call ((rw c.in-BehindColons.is at c.beginning_of.ensures).1)
@@ -145,7 +156,7 @@ search_list-keep_call-requires g t c = colons_opened c.turns.walk.trees.here c.i
 pub search_list-turns-smaller-in-BehindColons : goal.search_list-turns-smaller-in-BehindColons
 search_list-turns-smaller-in-BehindColons g t c =
     let G = c.turns.invariant in
-    let plain = (plain_at c.turns.walk c.turns.search.locals G.place G.at c.args.env.now.dialect.now c.in_default-OUT.ensures.none c.in_default.ensures.none) in
+    let plain = (plain_at c.turns.walk c.turns.search.locals G.place G.at c.args.env.now.dialect.now (c.in_ok-rest.ensures.none c.in_default.is) c.in_default-piece_ahead.ensures.none) in
     let e = (rw c.in-BehindColons.is at c.beginning_of.ensures).1 in
     (goes_colons c.args.env.now.dialect.now (world_under (g.G.FragmentGrammar.answer c.args.env.now.grammar.now) c.args.env.now.scope.now c.args.env.now.dialect.now) (scope_in c.args.env.now.scope.now) c.args.env.now.depth c.args.outer c.args.env.now.scope.now.edition g.S.EventSink.has_taken
     c.turns.search c.keep_call.new.search c.turns.walk c.keep_call.new.walk G.place G.at plain c.in-BehindColons.call e
@@ -157,7 +168,7 @@ search_list-turns-smaller-in-BehindColons g t c =
 pub search_list-turns-preserved-in-BehindColons : goal.search_list-turns-preserved-in-BehindColons
 search_list-turns-preserved-in-BehindColons g t c =
     let G = c.turns.invariant in
-    let plain = (plain_at c.turns.walk c.turns.search.locals G.place G.at c.args.env.now.dialect.now c.in_default-OUT.ensures.none c.in_default.ensures.none) in
+    let plain = (plain_at c.turns.walk c.turns.search.locals G.place G.at c.args.env.now.dialect.now (c.in_ok-rest.ensures.none c.in_default.is) c.in_default-piece_ahead.ensures.none) in
     let e = (rw c.in-BehindColons.is at c.beginning_of.ensures).1 in
     going_on c.args.env.now.dialect.now (world_under (g.G.FragmentGrammar.answer c.args.env.now.grammar.now) c.args.env.now.scope.now c.args.env.now.dialect.now) (scope_in c.args.env.now.scope.now) c.args.env.now.depth c.args.outer c.args.env.now.scope.now.edition g.S.EventSink.has_taken
     _ c.args.search.now c.turns.search c.keep_call.new.search c.turns.walk c.keep_call.new.walk G
@@ -171,7 +182,7 @@ search_list-turns-preserved-in-BehindColons g t c =
 pub search_list-turns-preserved-in-Leaf : goal.search_list-turns-preserved-in-Leaf
 search_list-turns-preserved-in-Leaf g t c =
     let G = c.turns.invariant in
-    let plain = (plain_at c.turns.walk c.turns.search.locals G.place G.at c.args.env.now.dialect.now c.in_default-OUT.ensures.none c.in_default.ensures.none) in
+    let plain = (plain_at c.turns.walk c.turns.search.locals G.place G.at c.args.env.now.dialect.now (c.in_ok-rest.ensures.none c.in_default.is) c.in_default-piece_ahead.ensures.none) in
     let begins = rw c.in-Leaf.is at c.beginning_of.ensures in
     going_on c.args.env.now.dialect.now (world_under (g.G.FragmentGrammar.answer c.args.env.now.grammar.now) c.args.env.now.scope.now c.args.env.now.dialect.now) (scope_in c.args.env.now.scope.now) c.args.env.now.depth c.args.outer c.args.env.now.scope.now.edition g.S.EventSink.has_taken
     _ c.args.search.now c.turns.search _ c.turns.walk _ G
@@ -212,7 +223,7 @@ search_list-turns-smaller g t c =
     let more : c.in_ok-pass_event-in-Other.field-0 ≡ true = search rules in
     let begins = rw c.in-Other.is at c.beginning_of.ensures in
     (c.in_ok-pass_event-in-Other.ensures.turn more c.args.env.now.dialect.now (world_under (g.G.FragmentGrammar.answer c.args.env.now.grammar.now) c.args.env.now.scope.now c.args.env.now.dialect.now) (scope_in c.args.env.now.scope.now) c.args.env.now.depth c.args.env.now.scope.now.edition G.place G.at
-    ((plain_at c.turns.walk c.turns.search.locals G.place G.at c.args.env.now.dialect.now c.in_default-OUT.ensures.none c.in_default.ensures.none), no_call_at c.turns.walk c.turns.search.locals G.place G.at begins.0 begins.1)).less
+    ((plain_at c.turns.walk c.turns.search.locals G.place G.at c.args.env.now.dialect.now (c.in_ok-rest.ensures.none c.in_default.is) c.in_default-piece_ahead.ensures.none), no_call_at c.turns.walk c.turns.search.locals G.place G.at begins.0 begins.1)).less
 
 pub search_list-turns-preserved : goal.search_list-turns-preserved
 search_list-turns-preserved g t c =
@@ -222,4 +233,4 @@ search_list-turns-preserved g t c =
     going_on c.args.env.now.dialect.now (world_under (g.G.FragmentGrammar.answer c.args.env.now.grammar.now) c.args.env.now.scope.now c.args.env.now.dialect.now) (scope_in c.args.env.now.scope.now) c.args.env.now.depth c.args.outer c.args.env.now.scope.now.edition g.S.EventSink.has_taken
     _ c.args.search.now c.turns.search c.pass_event.new.search c.turns.walk c.pass_event.new.walk G
     (c.in_ok-pass_event-in-Other.ensures.turn more c.args.env.now.dialect.now (world_under (g.G.FragmentGrammar.answer c.args.env.now.grammar.now) c.args.env.now.scope.now c.args.env.now.dialect.now) (scope_in c.args.env.now.scope.now) c.args.env.now.depth c.args.env.now.scope.now.edition G.place G.at
-    ((plain_at c.turns.walk c.turns.search.locals G.place G.at c.args.env.now.dialect.now c.in_default-OUT.ensures.none c.in_default.ensures.none), no_call_at c.turns.walk c.turns.search.locals G.place G.at begins.0 begins.1))
+    ((plain_at c.turns.walk c.turns.search.locals G.place G.at c.args.env.now.dialect.now (c.in_ok-rest.ensures.none c.in_default.is) c.in_default-piece_ahead.ensures.none), no_call_at c.turns.walk c.turns.search.locals G.place G.at begins.0 begins.1))
