@@ -50,6 +50,7 @@ use Rattle.expander_session.proofs.ExpandedLemmas.{expanded_by_finds}
 use Rattle.expander_session.proofs.KeptLemmas.{more_held}
 use Rattle.expander_session.proofs.AbsoluteSpanLemmas.{kept_faults, kept_steps, met_faults}
 use Rattle.expander_session.proofs.ReuseLemmas.{fresh_is_held, met_scope}
+use Rattle.expander_model.proofs.DefinitionPlaceLemmas.{definition_piece}
 
 -- ---- one more at the end of a list
 
@@ -162,6 +163,14 @@ unwrapped o d x e = ap (λ (y : Option Definition). unwrap_or y x) e
 
 definition_is : (f : Forest) (d : Definition) → definition_of f ≡ Some d → definition_in f ≡ d
 definition_is f d e = unwrapped (definition_of f) d _ e
+
+-- the piece of a definition is the tree that it is read from
+pub piece_in : (f : Forest) → (definition_in f).piece ≡ f
+piece_in f = go (definition_of f) refl
+  where
+    go : (o : Option Definition) → definition_of f ≡ o → (definition_in f).piece ≡ f
+    go None e = rw e refl
+    go (Some d) e = ap (λ (x : Definition). x.piece) (definition_is f d e) ∙ definition_piece f d e
 
 module _ (grammar : Grammar) (edition : Edition) (dialect : Dialect) (depth : ℕ) (old : Cache) (piece : Forest) (now next : Evaluation) where
   abbrev W : World Definition

@@ -1,4 +1,5 @@
 mod CommandLemmas
 mod CommandRows
+mod ConditionLemmas
 mod ShownLemmas
 mod SourceLemmas
