@@ -1,6 +1,6 @@
 -- Replies to texts that expand to themselves.
 use Rattle.std.proofs.Common.{◌≡◌, ℕ, List, [], refl, subst, ◌∙◌, sym}
-use Rattle.std.specs.Prelude.{Option, Result, Ok, Err}
+use Rattle.std.specs.Prelude.{None, Option, Result, Ok, Err}
 use Rattle.bridge.specs.declared.reading.outcome.ReadFault.{ReadFault}
 use Rattle.expander_session.specs.declared.session.Reply.{Reply}
 use Rattle.expander_session.specs.declared.session.Reply.TheVariants.{Read, Unread}

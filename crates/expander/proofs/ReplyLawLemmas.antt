@@ -1,6 +1,6 @@
 -- The replies to texts that share pieces.
 use Rattle.std.proofs.Common.{◌≡◌, ◌↔◌, ℕ, Bool, true, false, cond, List, [], ◌∷◌, ◌++◌, Option, Some, refl, ap, sym, subst, ◌∙◌, length}
-use Rattle.std.specs.Prelude.{All, Contains, IsUtf8, Result, Ok, Err, filter, not, ◌&&◌, ◌||◌}
+use Rattle.std.specs.Prelude.{All, Contains, IsUtf8, Result, Ok, Err, filter, not, ◌&&◌, ◌||◌, None}
 use Rattle.std.specs.List.{list_any}
 use Rattle.std.proofs.lemmas.List.Elements.{All-cons, All-contains, All-head, All-nil, All-tail}
 use Rattle.bridge.specs.TokenSteps.{text_reading}
@@ -31,13 +31,13 @@ faults_are (Err fault) earlier e none h = absurd h
 
 -- where the text is short enough, by whatever measure
 pub quiet_reply : (short : List ℕ → Type 0)
-    → ((grammar : Grammar) (edition : Edition) (dialect : Dialect) (depth : ℕ) (text : List ℕ) (f : Forest) (m : ReadMeaning) →
+    → ((grammar : Grammar) (edition : Edition) (dialect : Dialect) → dialect.cfg ≡ None → (depth : ℕ) (text : List ℕ) (f : Forest) (m : ReadMeaning) →
     IsUtf8 text → short text → text_reading text ≡ Ok f → HasNoWord f → meaning (layers grammar edition dialect) depth text ≡ Ok m → m.faults ≡ [])
-    → (grammar : Grammar) (edition : Edition) (dialect : Dialect) (depth : ℕ) (text : List ℕ) (f : Forest) (earlier : Option (List Looked)) (e : Expanded)
+    → (grammar : Grammar) (edition : Edition) (dialect : Dialect) → dialect.cfg ≡ None → (depth : ℕ) (text : List ℕ) (f : Forest) (earlier : Option (List Looked)) (e : Expanded)
     → IsUtf8 text → short text → text_reading text ≡ Ok f → HasNoWord f
     → IsReplyTo (layers grammar edition dialect) depth text earlier (Read e) → e.faults ≡ []
-quiet_reply short law grammar edition dialect depth text f earlier e is_text fits read quiet h =
-    faults_are (meaning (layers grammar edition dialect) depth text) earlier e (λ m is. law grammar edition dialect depth text f m is_text fits read quiet is) h
+quiet_reply short law grammar edition dialect keeps depth text f earlier e is_text fits read quiet h =
+    faults_are (meaning (layers grammar edition dialect) depth text) earlier e (λ m is. law grammar edition dialect keeps depth text f m is_text fits read quiet is) h
 
 -- ---- a piece that is among the earlier ones
 

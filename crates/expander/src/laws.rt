@@ -638,14 +638,16 @@ pub fn trivia_between_pieces_is_free()
 
 /// A reply to a text of fewer than 2^31 bytes has no fault if the text has no definition keyword:
 /// `short`. So it is for a text of fewer than 2^32 bytes once each `"` and `\` of it is escaped:
-/// `escaped_text`.
+/// `escaped_text`. Conditions leave nothing out.
 pub fn replies_without_definition_keywords_have_no_fault()
-    ensures short { (grammar : Grammar) (edition : Edition) (dialect : Dialect) (depth : ℕ)
-        (text : List ℕ) (f : Forest) (earlier : Option (List Looked)) (e : Expanded) →
+    ensures short { (grammar : Grammar) (edition : Edition) (dialect : Dialect) →
+        dialect.cfg ≡ None → (depth : ℕ) (text : List ℕ) (f : Forest)
+        (earlier : Option (List Looked)) (e : Expanded) →
         IsUtf8 text → length text < 2 ^ 31 → text_reading text ≡ Ok f → HasNoWord f →
         IsReplyTo (layers grammar edition dialect) depth text earlier (Read e) → e.faults ≡ [] }
-    ensures escaped_text { (grammar : Grammar) (edition : Edition) (dialect : Dialect) (depth : ℕ)
-        (text : List ℕ) (f : Forest) (earlier : Option (List Looked)) (e : Expanded) →
+    ensures escaped_text { (grammar : Grammar) (edition : Edition) (dialect : Dialect) →
+        dialect.cfg ≡ None → (depth : ℕ) (text : List ℕ) (f : Forest)
+        (earlier : Option (List Looked)) (e : Expanded) →
         IsUtf8 text → length (escaped text) < 2 ^ 32 → text_reading text ≡ Ok f → HasNoWord f →
         IsReplyTo (layers grammar edition dialect) depth text earlier (Read e) → e.faults ≡ [] }
 {
