@@ -1,5 +1,6 @@
 //! Sessions by both rules of scopes: what they print, and what an edit makes them expand anew.
 use crate::opened::found;
+use cfg_options::CfgOptions;
 use expander::{Dialect, Edition, Expansion, ScopeRules, Session, SmallGrammar};
 use std::alloc::Global;
 use std::test::Fail;
@@ -122,5 +123,44 @@ fn own_names_are_no_look_ups(rt: HostRuntime) -> Result<(), Fail> {
     assert!(rt; inside.printed() == "fn f ( ) { 2 }\nfn g ( ) { 0 }\n" && inside.expanded() == 1);
     let outside = expanded_with(&mut session, '0', "3")?;
     assert!(rt; outside.printed() == "fn f ( ) { 2 }\nfn g ( ) { 3 }\n" && outside.expanded() == 1);
+    Ok(())
+}
+
+// A session in which only the option `x` is set, over a text that is short.
+fn with_option(alloc: Global, text: &str) -> Result<Session<SmallGrammar>, Fail> {
+    if text.len() >= 1000 {
+        return Err(Fail::new("a text is long"));
+    }
+    let mut options = CfgOptions::new(alloc);
+    let Ok(()) = options.push("x") else {
+        return Err(Fail::new("it is no option"));
+    };
+    let dialect = Dialect {
+        scope: ScopeRules::Rust,
+        items: true,
+        cfg: Some(options),
+    };
+    Ok(Session::with_dialect(
+        alloc,
+        text,
+        SmallGrammar,
+        Edition::Edition2024,
+        dialect,
+        128,
+    )?)
+}
+
+// What is left out is not looked at: an edit in it expands nothing.
+#[test]
+fn conditions_leave_out(rt: HostRuntime) -> Result<(), Fail> {
+    let text = "#[cfg(x)] macro_rules! m { () => { 1 } } #[cfg(y)] macro_rules! m { () => { 2 } } \
+                m!{} #[cfg(y)] mod a { m!{} }";
+    let mut session = with_option(rt.alloc(), text)?;
+    let first = found(&mut session)?;
+    assert!(rt; first.printed() == "1\n" && first.expanded() == 2);
+    let nowhere = expanded_with(&mut session, '2', "4")?;
+    assert!(rt; nowhere.printed() == "1\n" && nowhere.expanded() == 0);
+    let there = expanded_with(&mut session, '1', "3")?;
+    assert!(rt; there.printed() == "3\n" && there.expanded() == 1);
     Ok(())
 }
