@@ -1,4 +1,5 @@
 //! Does what the program is asked for.
+ghost use Rattle.std.specs.Prelude.{◌≡◌};
 
 use crate::conditions::cfg_of;
 use crate::files::{misused, opened, read_whole, stopped};
@@ -8,7 +9,8 @@ use crate::load::{Ended, Others, others_of};
 use crate::source::blank_front;
 use crate::view::view;
 use any_grammar::AnyGrammar;
-use expander::{Options, Prelude, Status, Watched, run_after};
+use cfg_options::CfgOptions;
+use expander::{Dialect, Options, Prelude, Status, Watched, run_after};
 use replay_script::{Answered, End, answer_script, wrong_words};
 use std::io;
 use std::io::{BufReader, Read};
@@ -74,61 +76,111 @@ fn replay<R: Read + Drop>(
     }
 }
 
-// Does a job on a whole text, in which what is no code is blank. `name` is its file's.
+// What is done with a text, and by which options.
+#[derive(Drop)]
+struct Task {
+    action: Action,
+    options: Options<AnyGrammar>,
+    // Whether the expansion is laid out.
+    layout: bool,
+}
+
+// Does a task on a whole text, in which what is no code is blank. `name` is its file's.
 fn answer(
     rt: &HostRuntime,
-    job: Job<'_>,
+    task: Task,
     others: Others,
     name: &str,
     text: &[u8],
 ) -> io::Result<ExitCode> {
-    match job.action {
-        Action::View => show(rt, job.options, others, name, text),
-        _ if job.layout => expand_in_lines(rt, job.options, others.prelude, text),
-        _ => Ok(expand(rt, job.options, others.prelude, text)),
+    let Task {
+        action,
+        options,
+        layout,
+    } = task;
+    match action {
+        Action::View => show(rt, options, others, name, text),
+        _ if layout => expand_in_lines(rt, options, others.prelude, text),
+        _ => Ok(expand(rt, options, others.prelude, text)),
     }
 }
 
-// Does a job on what a reader has left. `name` is the reader's.
+// Does a task on what a reader has left. `name` is the reader's.
 fn work_on<R: Read + Drop>(
     rt: &HostRuntime,
-    job: Job<'_>,
+    task: Task,
     others: Others,
     name: &str,
     reader: R,
 ) -> io::Result<ExitCode> {
-    if job.action == Action::Replay {
-        return replay(rt, job.options, others.prelude, reader);
+    if task.action == Action::Replay {
+        return replay(rt, task.options, others.prelude, reader);
     }
     match read_whole(rt.alloc(), reader) {
         Ok(mut text) => {
             blank_front(text.as_mut_slice());
-            answer(rt, job, others, name, text.as_slice())
+            answer(rt, task, others, name, text.as_slice())
         }
         Err(why) => stopped(rt, why),
     }
 }
 
-// Does a job on its text after these definitions.
-fn work(rt: &HostRuntime, job: Job<'_>, others: Others) -> io::Result<ExitCode> {
-    match job.file {
-        None => work_on(rt, job, others, "standard input", rt.stdin()),
+// Does a job on its text after these definitions, where these options are set for conditions.
+fn work(
+    rt: &HostRuntime,
+    job: Job<'_>,
+    cfg: Option<CfgOptions>,
+    others: Others,
+) -> io::Result<ExitCode> {
+    let Job {
+        action,
+        options,
+        layout,
+        file,
+        ..
+    } = job;
+    let task = Task {
+        action,
+        options: under(options, cfg),
+        layout,
+    };
+    match file {
+        None => work_on(rt, task, others, "standard input", rt.stdin()),
         Some(path) => match opened(rt, path) {
-            Ok(file) => work_on(rt, job, others, path, file),
+            Ok(file) => work_on(rt, task, others, path, file),
             Err(error) => misused(rt, path, &error),
         },
     }
 }
 
+// The same options, where these are set for conditions.
+fn under(options: Options<AnyGrammar>, cfg: Option<CfgOptions>) -> Options<AnyGrammar>
+    ensures { result ≡ record options { dialect = record options.dialect { cfg = cfg } } }
+{
+    let Options {
+        grammar,
+        edition,
+        dialect,
+        depth,
+    } = options;
+    let Dialect { scope, items, .. } = dialect;
+    Options {
+        grammar,
+        edition,
+        dialect: Dialect { scope, items, cfg },
+        depth,
+    }
+}
+
 /// Does a job. The status is 2 where a word for `cfg` names no option, or one of its files cannot be
 /// opened.
-pub(crate) fn perform(rt: &HostRuntime, mut job: Job<'_>) -> io::Result<ExitCode> {
-    match cfg_of(rt.alloc(), job.cfg.as_slice())? {
-        Ok(cfg) => job.options.dialect.cfg = cfg,
+pub(crate) fn perform(rt: &HostRuntime, job: Job<'_>) -> io::Result<ExitCode> {
+    let cfg = match cfg_of(rt.alloc(), job.cfg.as_slice())? {
+        Ok(cfg) => cfg,
         Err(word) => return misused(rt, word, &"no option for cfg"),
-    }
+    };
     match others_of(rt, &job) {
-        Ok(others) => work(rt, job, others),
+        Ok(others) => work(rt, job, cfg, others),
         Err(Ended::Status(status)) => Ok(status),
         Err(Ended::Failed(error)) => Err(error),
     }

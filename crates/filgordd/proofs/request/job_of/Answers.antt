@@ -10,6 +10,7 @@ returns-clause-words c = record {
       flag_is (found_of c.args.matches.now) (codes "layout") c.get_flag.result c.get_flag.ensures.none
       c.get_flag.ensures.value c.get_flag.ensures.other;
   has_library = option_is (λ s. s.now) (found_of c.args.matches.now) (codes "std") c.get_str.result c.get_str.ensures;
-  has_with = c.in_ok-with_words.ensures;
+  has_with = c.in_ok-words_of.ensures;
+  has_cfg = c.in_ok-words_of-2.ensures;
   has_file = file_is (λ s. s.now) (found_of c.args.matches.now) (codes "file") c.get_str-2.result _ c.get_str-2.ensures c.file_of.ensures;
 }
