@@ -90,11 +90,21 @@ read_words() {
         case $1 in
             --quick) quick=yes ;;
             --std) find_library && words+=("--std=$library") ;;
+            --cfg-host) take_host ;;
             --) words+=("$@") && return ;;
             *) words+=("$1") ;;
         esac
         shift
     done
+}
+
+# Takes the options that rustc sets on this machine.
+take_host() {
+    local option found
+    found=$(rustc --print cfg) || fail '--cfg-host asks rustc, which is not there'
+    while IFS= read -r option; do
+        words+=("--cfg=$option")
+    done <<<"$found"
 }
 
 # Finds the source of the installed library, beside rustc or where Debian has it: sets `library`.
@@ -133,8 +143,8 @@ check_words() {
     while [ $i -lt ${#words[@]} ]; do
         case ${words[i]} in
             --) check_rest $((i + 1)); return ;;
-            --grammar=* | --edition=* | --scope=* | --depth=* | --std=* | --with=*) check_value "${words[i]%%=*}" "${words[i]#*=}" ;;
-            --grammar | --edition | --scope | --depth | --with)
+            --grammar=* | --edition=* | --scope=* | --depth=* | --std=* | --with=* | --cfg=*) check_value "${words[i]%%=*}" "${words[i]#*=}" ;;
+            --grammar | --edition | --scope | --depth | --with | --cfg)
                 [ $((i + 1)) -lt ${#words[@]} ] || misused "${words[i]} has no value"
                 check_value "${words[i]}" "${words[i + 1]}"
                 i=$((i + 1))
@@ -167,6 +177,7 @@ check_value() {
     case $1=$2 in
         --std=*) check_library "$2" && return ;;
         --with=*) check_other "$2" && return ;;
+        --cfg=*) return ;;
         --grammar=rust | --grammar=small | --edition=2015 | --edition=2018 | --edition=2021 | --edition=2024) return ;;
         --scope=rust | --scope=top) return ;;
         --depth=*) [[ $2 =~ ^\+?0*([0-9]{1,3})$ ]] && [ "${BASH_REMATCH[1]}" -le 255 ] && return ;;
