@@ -362,7 +362,8 @@ fn evaluate_definition<G: FragmentGrammar>(
 ) -> Result<(), Refusal>
     requires definition { is_some (definition_of tree.value.inner) ≡ true }
     requires top { tree.value.delimiter ≡ text_top }
-    requires held { IfSome held (λ k. known_in context.now.memory.now.by_tree tree.value ≡ Some k.now.value) }
+    requires held { IfSome held (λ k.
+        known_in context.now.memory.now.by_tree tree.value ≡ Some k.now.value) }
     requires can { CanDefine context.now.memory.now now.old }
     ensures taken { (grammar : Grammar) (depth : ℕ) (piece : Forest) →
         LooksAtNoPlace (world grammar now.old.scope.edition context.now.dialect.now) →
@@ -378,9 +379,10 @@ fn evaluate_definition<G: FragmentGrammar>(
     ensures expanded { OnOk result (now.new.taken.expanded ≡ now.old.taken.expanded) }
     ensures cause { (trees : List Forest) →
         HaveNumbers (numbers_in context.now.memory.now.by_tree) (trees_of context.now.memory.now) →
-        HasNumbered context.now.memory.now.given context.now.memory.now.by_tree (trees_of context.now.memory.now) trees
-        now.old.taken.numbers → result ≡ Err Refusal.Numbers →
-        2 ^ 32 ≤ context.now.memory.now.given + needed (trees_of context.now.memory.now) (trees ++ tree.value.inner ∷ []) }
+        HasNumbered context.now.memory.now.given context.now.memory.now.by_tree
+        (trees_of context.now.memory.now) trees now.old.taken.numbers → result ≡ Err Refusal.Numbers →
+        2 ^ 32 ≤ context.now.memory.now.given + needed (trees_of context.now.memory.now)
+        (trees ++ tree.value.inner ∷ []) }
     ensures tokens { result ≢ Err Refusal.Tokens }
 {
     let EvaluationContext {
@@ -423,8 +425,10 @@ fn evaluate_import<G: FragmentGrammar>(
     ensures edition { OnOk result (now.new.scope.edition ≡ now.old.scope.edition) }
     ensures lookup { OnOk result (now.new.lookup ≡ now.old.lookup) }
     ensures expanded { OnOk result (now.new.taken.expanded ≡ now.old.taken.expanded) }
-    ensures cause { (trees : List Forest) → HasNumbered context.now.memory.now.given context.now.memory.now.by_tree
-        (trees_of context.now.memory.now) trees now.old.taken.numbers → result ≡ Err Refusal.Numbers →
+    ensures cause { (trees : List Forest) →
+        HasNumbered context.now.memory.now.given context.now.memory.now.by_tree
+        (trees_of context.now.memory.now) trees now.old.taken.numbers →
+        result ≡ Err Refusal.Numbers →
         2 ^ 32 ≤ context.now.memory.now.given + needed (trees_of context.now.memory.now)
         (trees ++ definition_trees (import_piece import.now ∷ [])) }
     ensures tokens { result ≢ Err Refusal.Tokens }
@@ -742,8 +746,8 @@ pub(crate) fn evaluate_pieces<G: FragmentGrammar>(
     ensures stands { IfOk result (λ now. All Stands context.now.prelude.now) }
     ensures links { IfOk result (λ now. AreLinks now (map tree_at pieces.now)) }
     ensures tokens { result ≡ Err Refusal.Tokens → list_any bursts (members_after
-        (layers (G.answer context.now.grammar.now) edition context.now.dialect.now) context.now.depth
-        (definitions_of context.now.prelude.now) (map piece_at pieces.now)) ≡ true }
+        (layers (G.answer context.now.grammar.now) edition context.now.dialect.now)
+        context.now.depth (definitions_of context.now.prelude.now) (map piece_at pieces.now)) ≡ true }
     ensures numbers { result ≡ Err Refusal.Numbers → NeedsMore context.now.memory.now
         (definition_trees context.now.prelude.now ++ definition_trees (map piece_at pieces.now)) }
 {

@@ -148,7 +148,8 @@ impl Expansion {
     /// Where the printed tokens are in the printed text, of at most `u32::MAX` bytes, in order. The
     /// printed token of index i is spelled at range i.
     ///
-    /// Nothing is kept for it: it lexes the printed text as far as it is asked, and takes no memory.
+    /// Nothing is kept for it: it lexes the printed text as far as it is asked, and takes no
+    /// memory.
     pub fn token_ranges(&self) -> TokenRanges<'_>
         requires { length self.now.printed < 2 ^ 32 }
         ensures ranges { result ≡ read_ranges self.now.printed }
@@ -420,8 +421,8 @@ fn expand_pieces<G: FragmentGrammar>(
         (map piece_at pieces.now) r.0 r.1) }
     ensures stands { IfOk result (λ r. All Stands context.now.prelude.now) }
     ensures tokens { result ≡ Err Refusal.Tokens → list_any bursts (members_after
-        (layers (G.answer context.now.grammar.now) edition context.now.dialect.now) context.now.depth
-        (definitions_of context.now.prelude.now) (map piece_at pieces.now)) ≡ true }
+        (layers (G.answer context.now.grammar.now) edition context.now.dialect.now)
+        context.now.depth (definitions_of context.now.prelude.now) (map piece_at pieces.now)) ≡ true }
     ensures numbers { result ≡ Err Refusal.Numbers → NeedsMore context.now.memory.now
         (definition_trees context.now.prelude.now ++ definition_trees (map piece_at pieces.now)) }
 {
