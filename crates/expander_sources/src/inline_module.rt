@@ -40,7 +40,8 @@ pub(crate) fn module_of<'a>(piece: &TtIter<'a>) -> Option<(Ident, TtIter<'a>)>
     }
 }
 
-// The trees in the brackets of an outer attribute, and what follows it, if the list begins with one.
+// The trees in the brackets of an outer attribute, and what follows it, if the list begins with
+// one.
 fn first_attribute<'a>(trees: &TtIter<'a>) -> Option<(TtIter<'a>, TtIter<'a>)>
     ensures { result ≡ first_attribute trees.now }
 {

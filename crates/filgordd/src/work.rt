@@ -172,8 +172,8 @@ fn under(options: Options<AnyGrammar>, cfg: Option<CfgOptions>) -> Options<AnyGr
     }
 }
 
-/// Does a job. The status is 2 where a word for `cfg` names no option, or one of its files cannot be
-/// opened.
+/// Does a job. The status is 2 where a word for `cfg` names no option, or one of its files cannot
+/// be opened.
 pub(crate) fn perform(rt: &HostRuntime, job: Job<'_>) -> io::Result<ExitCode> {
     let cfg = match cfg_of(rt.alloc(), job.cfg.as_slice())? {
         Ok(cfg) => cfg,
