@@ -14,7 +14,7 @@ use Rattle.expander_model.specs.Expansion.{World, Outcome, CallSite, PlacedStep,
 use Rattle.expander_model.specs.Held.{Numbered, unnumbered}
 use Rattle.expander_model.specs.Dialects.{top_level}
 use Rattle.expander_model.specs.PieceStates.{after_call}
-use Rattle.expander_model.specs.Scoping.{Around, Scoped, Search, at_call, at_key, expanded, fitted, found_at, in_brackets, is_alone_in, is_expanded, kept_call, looked_up, only, scoped, unbroken, without_locals}
+use Rattle.expander_model.specs.Scoping.{Around, Scoped, Expander, at_call, at_key, expanded, fitted, found_at, in_brackets, is_alone_in, is_replaced, kept_call, looked_up, only, scoped, unbroken, without_locals}
 use Rattle.expander_model.specs.declared.begun.Begun.{Begun}
 use Rattle.expander_model.specs.declared.dialect.Dialect.{Dialect}
 use Rattle.expander_model.specs.declared.call.Call.{Call}
@@ -160,29 +160,29 @@ and_true : (b : Bool) → (b && true) ≡ b
 and_true true = refl
 and_true false = refl
 
--- a call is expanded where a result comes
-module _ (dialect : Dialect) (world : World Numbered) (scope : List ℕ → Option Numbered) (d : Numbered) where
-  abbrev fits_at : ℕ → Forest → Bool
-  fits_at depth argument = is_expanded dialect world unnumbered scope (deeper_at dialect world scope depth) (Some d) argument
+-- a call is replaced where a result comes
+module _ (dialect : Dialect) (world : World Numbered) (scope : List ℕ → Option Numbered) (d : Numbered) (around : Around) (site : CallSite) where
+  abbrev replaced_at : ℕ → Bool
+  replaced_at depth = is_replaced dialect world unnumbered scope (deeper_at dialect world scope depth) (Some d) around site
 
-  comes_expanded : (depth : ℕ) (argument g : Forest) → answer world d depth argument ≡ Ok g → fits_at depth argument ≡ true
-  comes_expanded depth argument g e = go depth (world.broken d) (world.fit d argument) refl refl e
+  comes_replaced : (depth : ℕ) (g : Forest) → answer world d depth site.argument ≡ Ok g → replaced_at depth ≡ true
+  comes_replaced depth g e = go depth (world.broken d) (world.fit d site.argument) refl refl e
     where
-      go : (n : ℕ) (broken : Bool) (given : Option Forest) → world.broken d ≡ broken → world.fit d argument ≡ given
-          → (if broken then Err BrokenDefinition else answer_at n given) ≡ Ok g → fits_at n argument ≡ true
+      go : (n : ℕ) (broken : Bool) (given : Option Forest) → world.broken d ≡ broken → world.fit d site.argument ≡ given
+          → (if broken then Err BrokenDefinition else answer_at n given) ≡ Ok g → replaced_at n ≡ true
       go n true given b f e = absurd (cc e)
       go zero false given b f e = absurd (cc e)
       go (suc n) false None b f e = absurd (cc e)
-      go (suc n) false (Some h) b f e = ap (λ x. not x && is_some (world.fit d argument)) b ∙ ap is_some f
+      go (suc n) false (Some h) b f e = ap (λ x. not x && is_some (world.fit d site.argument)) b ∙ ap is_some f
 
-  stays_unexpanded : (depth : ℕ) (argument : Forest) (kind : FaultKind) → answer world d depth argument ≡ Err kind → fits_at depth argument ≡ false
-  stays_unexpanded depth argument kind e = go depth (world.broken d) (world.fit d argument) refl refl e
+  stays_unreplaced : (depth : ℕ) (kind : FaultKind) → answer world d depth site.argument ≡ Err kind → replaced_at depth ≡ false
+  stays_unreplaced depth kind e = go depth (world.broken d) (world.fit d site.argument) refl refl e
     where
-      go : (n : ℕ) (broken : Bool) (given : Option Forest) → world.broken d ≡ broken → world.fit d argument ≡ given
-          → (if broken then Err BrokenDefinition else answer_at n given) ≡ Err kind → fits_at n argument ≡ false
+      go : (n : ℕ) (broken : Bool) (given : Option Forest) → world.broken d ≡ broken → world.fit d site.argument ≡ given
+          → (if broken then Err BrokenDefinition else answer_at n given) ≡ Err kind → replaced_at n ≡ false
       go zero broken given b f e = refl
-      go (suc n) true given b f e = ap (λ x. not x && is_some (world.fit d argument)) b
-      go (suc n) false None b f e = ap (λ x. not x && is_some (world.fit d argument)) b ∙ ap is_some f
+      go (suc n) true given b f e = ap (λ x. not x && is_some (world.fit d site.argument)) b
+      go (suc n) false None b f e = ap (λ x. not x && is_some (world.fit d site.argument)) b ∙ ap is_some f
       go (suc n) false (Some h) b f e = absurd (cc e)
 
 -- a level is left where a result comes
@@ -260,7 +260,7 @@ module _ (dialect : Dialect) (world : World Numbered) (scope : List ℕ → Opti
 
     -- whether it does
     abbrev takes : (c : Call) (b : Bool) → IsCall p.here c b → Bool
-    takes c b k = takes_in dialect world scope depth p.begun around k.path c.name k.brackets c.argument
+    takes c b k = takes_in dialect world scope depth p.begun around k.path c.name k.bang k.brackets c.argument
 
     -- what is left at a call: what comes of it, and what is left behind it
     call_left : (c : Call) (b : Bool) (k : IsCall p.here c b) (gone : Bool) → takes c b k ≡ gone
@@ -311,22 +311,22 @@ module _ (dialect : Dialect) (world : World Numbered) (scope : List ℕ → Opti
     abbrev pub stands_alone : (c : Call) (b : Bool) → IsCall p.here c b → Bool
     stands_alone c b k = is_alone_in dialect p.begun p.standing k.brackets
 
-    -- a call that is not expanded takes nothing
+    -- a call that is not replaced takes nothing
     takes_none : (c : Call) (b : Bool) (k : IsCall p.here c b) (o : Option Numbered) → found_at dialect world unnumbered scope around k.path c.name ≡ o
-        → is_expanded dialect world unnumbered scope (deeper_at dialect world scope depth) o c.argument ≡ false → takes c b k ≡ false
+        → is_replaced dialect world unnumbered scope (deeper_at dialect world scope depth) o around (site_of p.here c b k) ≡ false → takes c b k ≡ false
     takes_none c b k o finds not_so =
-        ap (λ x. stands_alone c b k && is_expanded dialect world unnumbered scope (deeper_at dialect world scope depth) x c.argument) finds
+        ap (λ x. stands_alone c b k && is_replaced dialect world unnumbered scope (deeper_at dialect world scope depth) x around (site_of p.here c b k)) finds
         ∙ ap (λ x. stands_alone c b k && x) not_so ∙ and_false (stands_alone c b k)
 
     takes_some : (c : Call) (k : IsCall p.here c true) (d : Numbered) → resolved scope p.locals p.here c ≡ Some d → (g : Forest) → answer world d depth c.argument ≡ Ok g
         → takes c true k ≡ stands_alone c true k
     takes_some c k d finds g says =
-        ap (λ x. stands_alone c true k && is_expanded dialect world unnumbered scope (deeper_at dialect world scope depth) x c.argument) (found_is c k ∙ finds)
-        ∙ ap (λ x. stands_alone c true k && x) (comes_expanded dialect world scope d depth c.argument g says) ∙ and_true (stands_alone c true k)
+        ap (λ x. stands_alone c true k && is_replaced dialect world unnumbered scope (deeper_at dialect world scope depth) x around (site_of p.here c true k)) (found_is c k ∙ finds)
+        ∙ ap (λ x. stands_alone c true k && x) (comes_replaced dialect world scope d around (site_of p.here c true k) depth g says) ∙ and_true (stands_alone c true k)
 
-    nothing_expanded : (o : Option (Search Numbered)) (argument : Forest) → is_expanded dialect world unnumbered scope o None argument ≡ false
-    nothing_expanded None argument = refl
-    nothing_expanded (Some search) argument = refl
+    nothing_replaced : (o : Option (Expander Numbered)) (site : CallSite) → is_replaced dialect world unnumbered scope o None around site ≡ false
+    nothing_replaced None site = refl
+    nothing_replaced (Some expand) site = refl
 
     -- it finds nothing
     pub unknown_left : (c : Call) (k : IsCall p.here c true) → resolved scope p.locals p.here c ≡ None
@@ -335,7 +335,7 @@ module _ (dialect : Dialect) (world : World Numbered) (scope : List ℕ → Opti
     unknown_left c k none =
         let kept : Scoped Numbered = kept_of around p.here c true k in
         let xs : List (List ℕ × Option Numbered) = lookups_of scope p.locals p.here c in
-        call_left c true k false (takes_none c true k None (found_is c k ∙ none) (nothing_expanded (deeper_at dialect world scope depth) c.argument))
+        call_left c true k false (takes_none c true k None (found_is c k ∙ none) (nothing_replaced (deeper_at dialect world scope depth) (site_of p.here c true k)))
         ∙ ap (λ (x : Scoped Numbered). then_left x.outcome (all_left dialect world scope depth outer (behind_call false c x.defines)))
         (resolved_call around p.here c k ∙ ap (λ o. noted around (site_of p.here c true k) kept xs (looked around (site_of p.here c true k) kept o)) none)
         ∙ kept_is c true k xs
@@ -344,7 +344,7 @@ module _ (dialect : Dialect) (world : World Numbered) (scope : List ℕ → Opti
     pub colons_left : (c : Call) (k : IsCall p.here c false)
         → all_left dialect world scope depth outer p ≡ kept_left dialect world scope depth outer (before_group k.path c.name k.bang) c.from_group p
     colons_left c k =
-        call_left c false k false (takes_none c false k None (finds_none k.path c.name k.is_so) (nothing_expanded (deeper_at dialect world scope depth) c.argument))
+        call_left c false k false (takes_none c false k None (finds_none k.path c.name k.is_so) (nothing_replaced (deeper_at dialect world scope depth) (site_of p.here c false k)))
         ∙ ap (λ (x : Scoped Numbered). then_left x.outcome (all_left dialect world scope depth outer (behind_call false c x.defines))) (not_open k.path c.name (site_of p.here c false k) k.is_so)
         ∙ kept_is c false k []
       where
@@ -382,7 +382,7 @@ module _ (dialect : Dialect) (world : World Numbered) (scope : List ℕ → Opti
     stays_left c k d finds kind says =
         let is = stays_is dialect world scope d around (site_of p.here c true k) depth kind says in (
           is.0,
-          known_left c k d finds false (takes_none c true k (Some d) (found_is c k ∙ finds) (stays_unexpanded dialect world scope d depth c.argument kind says))
+          known_left c k d finds false (takes_none c true k (Some d) (found_is c k ∙ finds) (stays_unreplaced dialect world scope d around (site_of p.here c true k) depth kind says))
               (only (bursting is.0 (stays kind outer (site_of p.here c true k)))) is.1,
         )
 

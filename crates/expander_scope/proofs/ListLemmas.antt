@@ -15,7 +15,7 @@ use Rattle.expander_model.specs.Expansion.{World, Outcome, just, followed_by, gr
 use Rattle.expander_model.specs.Held.{Numbered, unnumbered}
 use Rattle.expander_model.specs.PieceStates.{after_call, after_leaf, after_group}
 use Rattle.expander_model.specs.Pieces.{cut}
-use Rattle.expander_model.specs.Scoping.{Around, Scoped, Search, out_piece, plain_piece, kind_of, kind_in, definition_in, in_group, only, and_next, in_brackets, at_call, kept_call, search_leaf, search_list, scoped, takes_end}
+use Rattle.expander_model.specs.Scoping.{call_site, Expander, Around, Scoped, Search, out_piece, plain_piece, kind_of, kind_in, definition_in, in_group, only, and_next, in_brackets, at_call, kept_call, search_leaf, search_list, scoped, takes_end}
 use Rattle.expander_model.specs.declared.begun.Begun.{Begun}
 use Rattle.expander_model.specs.declared.begun.Begun.TheVariants.{Nothing, Pound, PoundBang, Attributes, AttributesPound, Visible, Qualified, Item, Extern, Abi, Gone, Other}
 use Rattle.expander_model.specs.declared.dialect.Dialect.{Dialect}
@@ -36,7 +36,7 @@ module _ (dialect : Dialect) (world : World Numbered) (scope : List ℕ → Opti
   abbrev S : Search Numbered
   S = searched dialect world scope depth
 
-  abbrev deep : Option (Search Numbered)
+  abbrev deep : Option (Expander Numbered)
   deep = deeper_at dialect world scope depth
 
   abbrev left : Begun → Around → Forest → Scoped Numbered
@@ -114,12 +114,12 @@ module _ (dialect : Dialect) (world : World Numbered) (scope : List ℕ → Opti
   abbrev pub called_in : Around → Path → Ident → Punct → Delimiter → Forest → Scoped Numbered
   called_in around path name bang d argument =
       at_call dialect world unnumbered scope deep around path name
-      (record { at = name.span; whole = whole_call path name bang d argument; argument = argument })
+      (call_site path name bang d argument)
       (kept_call dialect world unnumbered scope S around path name bang d argument)
 
   -- whether a `;` right behind it goes with it
-  abbrev pub takes_in : Begun → Around → Path → Ident → Delimiter → Forest → Bool
-  takes_in s around path name d argument = takes_end dialect world unnumbered scope deep s around path name d argument
+  abbrev pub takes_in : Begun → Around → Path → Ident → Punct → Delimiter → Forest → Bool
+  takes_in s around path name bang d argument = takes_end dialect world unnumbered scope deep s around path name d (call_site path name bang d argument)
 
   some_call : (path : Path) (name : Ident) (bang : Punct) (d : Delimiter) (inner rest : Forest) → call_before name bang d inner path rest ≢ empty
   some_call bare name bang d inner rest = λ e. absurd (cc e)
@@ -129,7 +129,7 @@ module _ (dialect : Dialect) (world : World Numbered) (scope : List ℕ → Opti
   pub left_call : (s : Begun) (around : Around) (path : Path) (name : Ident) (bang : Punct) (d : Delimiter) (inner rest : Forest) → AreOfCall path bang d
       → IsPlain around.standing s (call_before name bang d inner path rest)
       → left s around (call_before name bang d inner path rest)
-      ≡ and_next (called_in around path name bang d inner) (λ here. left (after_call (takes_in s around path name d inner) s d.kind) here rest) around
+      ≡ and_next (called_in around path name bang d inner) (λ here. left (after_call (takes_in s around path name bang d inner) s d.kind) here rest) around
   left_call s around path name bang d inner rest h plain =
       trees_of_piece s around (call_before name bang d inner path rest) (some_call path name bang d inner rest) plain
       ∙ at_a_call dialect world unnumbered scope S deep s around path name bang d inner rest h

@@ -7,7 +7,7 @@ use Rattle.expander_scope.specs.declared.expand.Expanding.{Expanding}
 use Rattle.expander_model.specs.declared.fault.FaultKind.{FaultKind}
 use Rattle.expander_model.specs.declared.fault.FaultKind.TheVariants.{CannotExpand, BrokenDefinition, RecursionLimit}
 use Rattle.expander_model.specs.Expansion.{World, Outcome, PlacedStep}
-use Rattle.expander_model.specs.Scoping.{Around, Search, scoped, search_list}
+use Rattle.expander_model.specs.Scoping.{Around, Expander, Search, attempt, scoped, search_list}
 use Rattle.expander_model.specs.declared.scope_rules.Standing.{Standing}
 use Rattle.expander_scope.specs.LocalTables.{locals_of}
 use Rattle.expander_scope.specs.declared.locals.Locals.{Locals}
@@ -29,10 +29,11 @@ answer_at (suc n) None = Err CannotExpand
 answer_at (suc n) (Some result) = Ok result
 
 module _ (dialect : Dialect) (world : World Numbered) where
-  -- how results are searched with so many levels left: not at all with none
-  abbrev pub deeper_at : (List ℕ → Option Numbered) → ℕ → Option (Search Numbered)
+  -- how calls are expanded with so many levels left: not at all with none
+  abbrev pub deeper_at : (List ℕ → Option Numbered) → ℕ → Option (Expander Numbered)
   deeper_at scope zero = None
-  deeper_at scope (suc n) = Some (scoped dialect world unnumbered scope n)
+  deeper_at scope (suc n) =
+      Some (attempt dialect world unnumbered scope (scoped dialect world unnumbered scope n))
 
   -- the search of a list with so many levels left
   abbrev pub searched : (List ℕ → Option Numbered) → ℕ → Search Numbered
