@@ -22,7 +22,7 @@ use Rattle.expander_model.specs.Scoping.{call_site, Around, Scoped, Search, Expa
 use Rattle.textual_scope.proofs.ResultLemmas.{same_next}
 
 module _ {D : Type 0} where
-  looked_in-append : (xs ys : List (List ℕ × Option (Noted D))) → looked_in (xs ++ ys) ≡ looked_in xs ++ looked_in ys
+  pub looked_in-append : (xs ys : List (List ℕ × Option (Noted D))) → looked_in (xs ++ ys) ≡ looked_in xs ++ looked_in ys
   looked_in-append [] ys = refl
   looked_in-append ((key, Some burst) ∷ xs) ys = looked_in-append xs ys
   looked_in-append ((key, Some (result n)) ∷ xs) ys = looked_in-append xs ys
