@@ -24,32 +24,29 @@ use Rattle.textual_scope.proofs.RefusalLemmas.{AllAgree, both_noted, both_tried,
 -- ---- look-ups and notes
 
 module _ {D : Type 0} where
+  -- a look-up before those that follow
+  behind_first : (P : (List ℕ × Option D) → Type 0) (x : List ℕ × Option D) (o : Option (List (List ℕ × Option D))) (finds : List (List ℕ × Option D))
+      → option_map (λ fs. x ∷ fs) o ≡ Some finds → P x → ((fs : List (List ℕ × Option D)) → o ≡ Some fs → All P fs) → All P finds
+  behind_first P x None finds e first more = absurd (cc e)
+  behind_first P x (Some fs) finds e first more = let same : x ∷ fs ≡ finds = cc in subst (All P) same (All-cons P x fs first (more fs refl))
+
   -- the look-ups until a limit is passed are among all
   until_among : (P : (List ℕ × Option D) → Type 0) (calls tokens : ℕ) (notes : Notes D) (finds : List (List ℕ × Option D))
       → until_passed calls tokens notes ≡ Some finds → All P (looked_in notes) → All P finds
   until_among P calls tokens [] finds e all = absurd (cc e)
   until_among P calls tokens ((key, Some burst) ∷ notes) finds e all = let is : [] ≡ finds = cc in subst (All P) is (All-nil P)
-  until_among P calls tokens ((key, Some (result n)) ∷ notes) finds e all = go (nat_eq calls 0 || nat_lt tokens n) e
+  until_among P calls tokens ((key, Some (result n)) ∷ notes) finds e all =
+      go (nat_eq calls 0 || nat_lt tokens n) e (λ later. until_among P (calls - 1) (tokens - n) notes finds later all)
     where
-      go : (b : Bool) → (if b then Some [] else until_passed (calls - 1) (tokens - n) notes) ≡ Some finds → All P finds
-      go true e = let is : [] ≡ finds = cc in subst (All P) is (All-nil P)
-      go false e = until_among P (calls - 1) (tokens - n) notes finds e all
-  until_among P calls tokens ((key, Some (definition d)) ∷ notes) finds e all = go (until_passed calls tokens notes) refl e
-    where
-      go : (o : Option (List (List ℕ × Option D))) → until_passed calls tokens notes ≡ o → option_map (λ fs. (key, Some d) ∷ fs) o ≡ Some finds → All P finds
-      go None is e = absurd (cc e)
-      go (Some fs) is e =
-          let same : (key, Some d) ∷ fs ≡ finds = cc in
-          subst (All P) same
-          (All-cons P (key, Some d) fs (All-head P (key, Some d) (looked_in notes) all) (until_among P calls tokens notes fs is (All-tail P (key, Some d) (looked_in notes) all)))
-  until_among P calls tokens ((key, None) ∷ notes) finds e all = go (until_passed calls tokens notes) refl e
-    where
-      go : (o : Option (List (List ℕ × Option D))) → until_passed calls tokens notes ≡ o → option_map (λ fs. (key, None) ∷ fs) o ≡ Some finds → All P finds
-      go None is e = absurd (cc e)
-      go (Some fs) is e =
-          let same : (key, None) ∷ fs ≡ finds = cc in
-          subst (All P) same
-          (All-cons P (key, None) fs (All-head P (key, None) (looked_in notes) all) (until_among P calls tokens notes fs is (All-tail P (key, None) (looked_in notes) all)))
+      go : (b : Bool) → (if b then Some [] else until_passed (calls - 1) (tokens - n) notes) ≡ Some finds → (until_passed (calls - 1) (tokens - n) notes ≡ Some finds → All P finds) → All P finds
+      go true e more = let is : [] ≡ finds = cc in subst (All P) is (All-nil P)
+      go false e more = more e
+  until_among P calls tokens ((key, Some (definition d)) ∷ notes) finds e all =
+      behind_first P (key, Some d) (until_passed calls tokens notes) finds e (All-head P (key, Some d) (looked_in notes) all)
+      (λ fs is. until_among P calls tokens notes fs is (All-tail P (key, Some d) (looked_in notes) all))
+  until_among P calls tokens ((key, None) ∷ notes) finds e all =
+      behind_first P (key, None) (until_passed calls tokens notes) finds e (All-head P (key, None) (looked_in notes) all)
+      (λ fs is. until_among P calls tokens notes fs is (All-tail P (key, None) (looked_in notes) all))
 
   -- notes agree where their look-ups do
   all_agree : (others : List ℕ → Option D) (notes : Notes D) → All (λ find. others find.0 ≡ find.1) (looked_in notes) → AllAgree others notes
@@ -85,14 +82,14 @@ module _ {D : Type 0} (dialect : Dialect) (world : World D) (local : Definition 
         go : (o : Option (List (List ℕ × Option D))) → too_large dialect world local scope limits n d around site ≡ o
             → All IsFound (within kind o around site (attempt dialect world local scope (scoped dialect world local scope n) d around site)).given.outcome.finds
         go None e = all
-        go (Some finds) e = until_among IsFound limits.calls limits.tokens _ finds e (subst (All IsFound) (sym (same_finds scope n d around site)) all)
+        go (Some finds) e = until_among IsFound limits.calls limits.tokens (noted_attempt dialect world local scope (noted dialect world local scope n) (definition d) around site).given.outcome.finds finds e (subst (All IsFound) (sym (same_finds scope n d around site)) all)
 
     pub found_bounded : (n : ℕ) → FoundBy dialect world local scope (bounded dialect world local scope kind limits n)
     found_bounded zero around f = found_list dialect world local scope None tt (suc (size f)) around f
     found_bounded (suc n) around f = found_list dialect world local scope (Some (limited dialect world local scope kind limits n)) (found_limited n) (suc (size f)) around f
 
   module _ (scope others : List ℕ → Option D) where
-    Same : (List ℕ × Option D) → Type 0
+    abbrev Same : (List ℕ × Option D) → Type 0
     Same find = others find.0 ≡ find.1
 
     agree_limited : (n : ℕ) → AgreeFrom dialect world local scope others (limited dialect world local scope kind limits n) (limited dialect world local others kind limits n)
@@ -128,7 +125,7 @@ module _ {D : Type 0} (dialect : Dialect) (world : World D) (local : Definition 
 
 module _ {D E : Type 0} (f : Span → Span) (h : D → E) where
   -- what is noted, with h applied to definitions
-  note_with : Noted D → Noted E
+  abbrev note_with : Noted D → Noted E
   note_with (definition d) = definition (h d)
   note_with (result n) = result n
   note_with burst = burst
@@ -150,12 +147,11 @@ module _ {D E : Type 0} (f : Span → Span) (h : D → E) where
   passed-with : (calls tokens : ℕ) (notes : Notes D) → until_passed calls tokens (map (find_with note_with) notes) ≡ option_map (map (find_with h)) (until_passed calls tokens notes)
   passed-with calls tokens [] = refl
   passed-with calls tokens ((key, Some burst) ∷ notes) = refl
-  passed-with calls tokens ((key, Some (result n)) ∷ notes) = go (nat_eq calls 0 || nat_lt tokens n)
-    where
-      go : (b : Bool) → (if b then Some [] else until_passed (calls - 1) (tokens - n) (map (find_with note_with) notes))
-          ≡ option_map (map (find_with h)) (if b then Some [] else until_passed (calls - 1) (tokens - n) notes)
-      go true = refl
-      go false = passed-with (calls - 1) (tokens - n) notes
+  passed-with calls tokens ((key, Some (result n)) ∷ notes) =
+      elim (nat_eq calls 0 || nat_lt tokens n) as
+      (λ b. (if b then Some [] else until_passed (calls - 1) (tokens - n) (map (find_with note_with) notes))
+      ≡ option_map (map (find_with h)) (if b then Some [] else until_passed (calls - 1) (tokens - n) notes))
+      [ true ↦ refl | false ↦ passed-with (calls - 1) (tokens - n) notes ]
   passed-with calls tokens ((key, Some (definition d)) ∷ notes) = ap (option_map (λ fs. (key, Some (h d)) ∷ fs)) (passed-with calls tokens notes) ∙ go (until_passed calls tokens notes)
     where
       go : (o : Option (List (List ℕ × Option D))) → option_map (λ fs. (key, Some (h d)) ∷ fs) (option_map (map (find_with h)) o) ≡ option_map (map (find_with h)) (option_map (λ fs. (key, Some d) ∷ fs) o)

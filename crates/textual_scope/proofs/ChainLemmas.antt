@@ -125,7 +125,7 @@ module _ {D : Type 0} (world : World D) (scope : List ℕ → Option D) (deeper 
   search_chain (call path name bang d a m) n =
       let a_call : Outcome D =
       at_call world scope deeper outer path name
-      (call_site path name bang d (unmarked a))
+      (record { at = name.span; whole = whole_call path name bang d (unmarked a); argument = unmarked a })
       (followed_by (just outer (walk (before_group path name bang))) (grouped outer d (calls a))) in
       ap (followed_by a_call) (search_chain m n) ∙ sym (followed_assoc a_call (calls m) (calls n))
 

@@ -12,7 +12,7 @@ use Rattle.textual_scope.specs.Limits.{bounded}
 use Rattle.expander_model.specs.declared.scope_rules.Standing.TheVariants.{Top}
 use Rattle.expander_model.specs.Scoping.{scoped, without_locals}
 use Rattle.textual_scope.proofs.Lines.{trees, words, step_word}
-use Rattle.textual_scope.proofs.Rows.{by, toy}
+use Rattle.textual_scope.proofs.Rows.{by, toy, with_items}
 
 abbrev scope_of : String → List ℕ → Option Definition
 scope_of before = nearest (definitions_after [] (pieces (trees before)))
@@ -57,6 +57,18 @@ each_its_own = refl
 
 no_call_at_all : printed (limited_to 0 1 "macro_rules ! m { 1 }" "m ! { }") ≡ words "m ! { }"
 no_call_at_all = refl
+
+-- a `;` goes with a call that is replaced, and stays behind one that makes too much
+abbrev items_by : ℕ → Outcome Definition
+items_by calls =
+    (bounded with_items (toy with_items) (λ d. d) (scope_of "macro_rules ! m { 1 }") CannotExpand (record { calls = calls; tokens = 1 }) 3
+    (without_locals Top None) (trees "m ! ( ) ;")).outcome
+
+end_goes : printed (items_by 1) ≡ words "1"
+end_goes = refl
+
+end_stays : printed (items_by 0) ≡ words "m ! ( ) ;"
+end_stays = refl
 
 -- the argument of a call that makes too much is not searched
 argument_stays : printed (limited_to 0 9 "macro_rules ! m { 1 }" "m ! { m ! { } }") ≡ words "m ! { m ! { } }"
