@@ -149,12 +149,12 @@ module _ (dialect : Dialect) (world : World Numbered) (scope : List ℕ → Opti
 
   stays_at : (broken : Bool) (depth : ℕ) (given : Option Forest) (kind : FaultKind) → world.fit d site.argument ≡ given
       → (if broken then Err BrokenDefinition else answer_at depth given) ≡ Err kind → Stays (of_call broken depth) kind
-  stays_at true depth given kind fits e = let is : BrokenDefinition ≡ kind = cc in (false, [], refl, ap (λ k. only (stays k around.outer site)) is)
-  stays_at false zero given kind fits e = let is : RecursionLimit ≡ kind = cc in (false, [], refl, ap (λ k. only (stays k around.outer site)) is)
+  stays_at true depth given kind fits e = let is : BrokenDefinition ≡ kind = cc in (false, [], (refl, ap (λ k. only (stays k around.outer site)) is))
+  stays_at false zero given kind fits e = let is : RecursionLimit ≡ kind = cc in (false, [], (refl, ap (λ k. only (stays k around.outer site)) is))
   stays_at false (suc n) None kind fits e =
       let is : CannotExpand ≡ kind = cc in
       let b : Bool = world.bursts d site.argument in
-      (b, note_of b None, no_lookups b None, ap (given_by n) fits ∙ ap (λ k. only (followed_by (looks (note_of b None)) (bursting b (stays k around.outer site)))) is)
+      (b, note_of b None, (no_lookups b None, ap (given_by n) fits ∙ ap (λ k. only (followed_by (looks (note_of b None)) (bursting b (stays k around.outer site)))) is))
   stays_at false (suc n) (Some g) kind fits e = absurd (cc e)
 
   pub stays_is : (depth : ℕ) (kind : FaultKind) → answer world d depth site.argument ≡ Err kind → Stays (of_call (world.broken d) depth) kind
@@ -425,9 +425,11 @@ module _ (dialect : Dialect) (world : World Numbered) (scope : List ℕ → Opti
         let is = stays_is dialect world scope d around (site_of p.here c true k) depth kind says in (
           is.0,
           is.1,
-          is.2.0,
-          known_left c k d finds false (takes_none c true k (Some (definition d)) (found_is c k ∙ ap (option_map definition) finds) (stays_unreplaced dialect world scope d around (site_of p.here c true k) depth kind says))
-              (only (followed_by (looks is.1) (bursting is.0 (stays kind outer (site_of p.here c true k))))) is.2.1,
+          (
+            is.2.0,
+            known_left c k d finds false (takes_none c true k (Some (definition d)) (found_is c k ∙ ap (option_map definition) finds) (stays_unreplaced dialect world scope d around (site_of p.here c true k) depth kind says))
+                (only (followed_by (looks is.1) (bursting is.0 (stays kind outer (site_of p.here c true k))))) is.2.1,
+          ),
         )
 
     -- or its result comes in its place

@@ -14,7 +14,7 @@ use Rattle.bridge.specs.Text.{is_visible}
 use Rattle.expander_model.specs.CallSteps.{bare_call, call_at, call_behind_colons, crate_call}
 use Rattle.expander_model.specs.Definitions.{Definition, definition_of}
 use Rattle.expander_model.specs.Expansion.{World, Outcome, CallSite, PlacedStep, before_group, bursting, just, followed_by, stays}
-use Rattle.expander_model.specs.Held.{Numbered, unnumbered}
+use Rattle.expander_model.specs.Held.{Numbered}
 use Rattle.expander_model.specs.PieceStates.{after_leaf, after_group, after_name, is_dropped}
 use Rattle.expander_model.specs.Scoping.{Around as Surroundings, Scoped, out_piece, definition_piece, kind_of, kind_in, and_next, defined, definition_in, in_brackets, in_group, only}
 use Rattle.cfg_options.specs.declared.options.CfgOptions.{CfgOptions}

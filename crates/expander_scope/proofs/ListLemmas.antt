@@ -11,11 +11,11 @@ use Rattle.tt_data.specs.declared.span.Span.{Span}
 use Rattle.bridge.specs.Text.{is_visible}
 use Rattle.expander_model.specs.Calls.{Path, bare, from_crate, other, mark_leaf, marked, token}
 use Rattle.expander_model.specs.Definitions.{Definition}
-use Rattle.expander_model.specs.Expansion.{World, Outcome, just, followed_by, grouped, whole_call}
+use Rattle.expander_model.specs.Expansion.{World, Outcome, just, followed_by, grouped}
 use Rattle.expander_model.specs.Held.{Numbered, unnumbered}
 use Rattle.expander_model.specs.PieceStates.{after_call, after_leaf, after_group}
 use Rattle.expander_model.specs.Pieces.{cut}
-use Rattle.expander_model.specs.Scoping.{call_site, Expander, Around, Scoped, Search, out_piece, plain_piece, kind_of, kind_in, definition_in, in_group, only, and_next, in_brackets, at_call, kept_call, search_leaf, search_list, scoped, takes_end}
+use Rattle.expander_model.specs.Scoping.{call_site, Expander, Around, Scoped, Search, out_piece, plain_piece, kind_of, kind_in, definition_in, in_group, only, and_next, in_brackets, at_call, kept_call, search_leaf, search_list, takes_end}
 use Rattle.expander_model.specs.declared.begun.Begun.{Begun}
 use Rattle.expander_model.specs.declared.begun.Begun.TheVariants.{Nothing, Pound, PoundBang, Attributes, AttributesPound, Visible, Qualified, Item, Extern, Abi, Gone, Other}
 use Rattle.expander_model.specs.declared.dialect.Dialect.{Dialect}

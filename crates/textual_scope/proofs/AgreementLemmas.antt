@@ -11,7 +11,7 @@ use Rattle.expander_model.specs.Calls.{Path, bare, from_crate, other, Marked, no
 use Rattle.expander_model.specs.Definitions.{Definition, nearest}
 use Rattle.cfg_options.specs.Conditions.{or_else}
 use Rattle.expander_model.specs.Pieces.{cut}
-use Rattle.expander_model.specs.Expansion.{World, CallSite, just, followed_by, grouped, found, bursting, before_group, whole_call}
+use Rattle.expander_model.specs.Expansion.{World, CallSite, just, followed_by, grouped, found, bursting, before_group}
 use Rattle.expander_model.specs.PieceStates.{after_call, after_group, after_leaf}
 use Rattle.expander_model.specs.declared.begun.Begun.{Begun}
 use Rattle.expander_model.specs.declared.begun.Begun.TheVariants.{Nothing}

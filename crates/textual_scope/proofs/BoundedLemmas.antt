@@ -7,12 +7,12 @@ use Rattle.tt_data.proofs.ForestLemmas.{size-map_spans}
 use Rattle.tt_data.specs.declared.span.Span.{Span}
 use Rattle.expander_model.specs.Changes.{Changes, ScopeChange, find_with, outcome_with}
 use Rattle.expander_model.specs.Definitions.{Definition}
-use Rattle.expander_model.specs.Expansion.{World, Outcome, CallSite, stays}
+use Rattle.expander_model.specs.Expansion.{World, Outcome, CallSite}
 use Rattle.expander_model.specs.OtherPlaces.{definition_with}
 use Rattle.expander_model.specs.declared.dialect.Dialect.{Dialect}
 use Rattle.expander_model.specs.declared.fault.FaultKind.{FaultKind}
 use Rattle.expander_model.specs.Scoping.{Around, Scoped, Search, Attempt, Expander, attempt, only, scoped, search_list}
-use Rattle.textual_scope.specs.Limits.{Limits, Noted, definition, result, burst, Notes, note_of, noting, noted_world, noted_fit, noted_bursts, looked_in, unnoted, until_passed, within, noted_list, plain_attempt, noted_attempt, noted, too_large, limited, bounded}
+use Rattle.textual_scope.specs.Limits.{Limits, Noted, definition, result, burst, Notes, note_of, noting, noted_world, noted_fit, noted_bursts, looked_in, until_passed, within, noted_list, plain_attempt, noted_attempt, noted, too_large, limited, bounded}
 use Rattle.textual_scope.specs.ScopeChanges.{around_with, scoped_with}
 use Rattle.textual_scope.proofs.AgreementLemmas.{AgreeFrom, AgreeIn, agree_attempt, agree_list, agree_scoped}
 use Rattle.textual_scope.proofs.ChangeLemmas.{SameFrom, SameWith, attempt_with, attempt-with, list-with, scoped-with}

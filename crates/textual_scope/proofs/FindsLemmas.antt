@@ -11,7 +11,7 @@ use Rattle.expander_model.specs.declared.fault.FaultKind.TheVariants.{BrokenDefi
 use Rattle.expander_model.specs.Calls.{Path, bare, from_crate, other, Marked, none, token, inside, call, marked, unmarked, key_of}
 use Rattle.expander_model.specs.Definitions.{Definition, nearest}
 use Rattle.expander_model.specs.Pieces.{cut}
-use Rattle.expander_model.specs.Expansion.{World, Outcome, CallSite, faulted, just, whole_call}
+use Rattle.expander_model.specs.Expansion.{World, Outcome, CallSite, faulted, just}
 use Rattle.expander_model.specs.PieceStates.{after_call, after_group, after_leaf}
 use Rattle.expander_model.specs.declared.begun.Begun.{Begun}
 use Rattle.expander_model.specs.declared.begun.Begun.TheVariants.{Nothing}

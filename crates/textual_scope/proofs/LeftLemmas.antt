@@ -1,7 +1,6 @@
 -- A list is searched from the left, tree by tree.
-use Rattle.std.proofs.Common.{◌≡◌, ◌≢◌, ◌⊎◌, inl, inr, ℕ, Bool, true, false, true-eqb, List, [], ◌∷◌, Option, Some, None, refl, sym, ap, ◌∙◌, subst, if◌then◌else◌}
+use Rattle.std.proofs.Common.{◌≡◌, ◌≢◌, ◌⊎◌, inl, inr, ℕ, Bool, true, false, true-eqb, List, [], ◌∷◌, Option, refl, sym, ap, ◌∙◌, subst, if◌then◌else◌}
 use Rattle.std.specs.Prelude.{◌&&◌, ◌||◌, codes, not}
-use Prim.Native.String.{String}
 use Rattle.std.proofs.lemmas.Bool.{and_parts}
 use Rattle.tt.specs.Glued.{is_alone}
 use Rattle.tt_data.specs.Forest.{Forest, empty, leaf, group, joined}
@@ -17,7 +16,7 @@ use Rattle.tt_data.specs.declared.delimiter.DelimiterKind.TheVariants.{Parenthes
 use Rattle.bridge.specs.Text.{is_char, is_punct, is_visible, same_kind}
 use Rattle.expander_model.specs.Calls.{Path, Marked, none, token, inside, call, bare, from_crate, other, in_front, is_bang_group, is_colons, is_root, mark_leaf, marked, unmarked}
 use Rattle.expander_model.specs.Definitions.{Definition}
-use Rattle.expander_model.specs.Expansion.{World, just, whole_call}
+use Rattle.expander_model.specs.Expansion.{World, just}
 use Rattle.expander_model.specs.PieceStates.{after_call, after_group, after_ident, after_leaf, after_literal, after_name, begun_with, by_word, is_at_start, is_item_word, is_qualifier}
 use Rattle.expander_model.specs.Pieces.{cut, cut_from, ends_piece, is_pound_bang}
 use Rattle.expander_model.specs.declared.begun.Begun.{Begun}

@@ -1,5 +1,5 @@
 -- Worked examples of limits, by computation, with the definitions of `Rows`.
-use Rattle.std.proofs.Common.{◌≡◌, ℕ, List, [], ◌∷◌, map, Option, Some, None, refl}
+use Rattle.std.proofs.Common.{◌≡◌, ℕ, List, [], ◌∷◌, map, Option, None, refl}
 use Rattle.std.specs.Prelude.{codes}
 use Prim.Native.String.{String}
 use Rattle.expander_model.specs.Definitions.{Definition, nearest}

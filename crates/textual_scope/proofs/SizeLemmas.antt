@@ -1,12 +1,12 @@
 -- A search is the same with any number of steps that is more than the size of its list.
-use Rattle.std.proofs.Common.{◌≡◌, ℕ, zero, suc, ◌<◌, ◌≤◌, ◌+◌, Bool, true, false, List, [], ◌∷◌, Option, Some, None, refl, ap, arith, if◌then◌else◌}
+use Rattle.std.proofs.Common.{◌≡◌, ℕ, zero, suc, ◌<◌, ◌≤◌, ◌+◌, Bool, true, false, List, [], ◌∷◌, Option, refl, ap, arith, if◌then◌else◌}
 use Rattle.tt_data.specs.Forest.{Forest, empty, leaf, group, joined, size}
 use Rattle.tt_data.proofs.ForestLemmas.{size-joined}
 use Rattle.tt_data.specs.Walk.{walk}
 use Rattle.bridge.specs.Text.{is_punct}
 use Rattle.expander_model.specs.Calls.{Marked, none, token, inside, call, marked, unmarked}
 use Rattle.expander_model.specs.Definitions.{Definition}
-use Rattle.expander_model.specs.Expansion.{World, CallSite, just, followed_by, grouped, before_group, whole_call}
+use Rattle.expander_model.specs.Expansion.{World, CallSite, just, followed_by, grouped, before_group}
 use Rattle.expander_model.specs.Pieces.{cut, cut_from, ends_piece}
 use Rattle.expander_model.specs.PieceStates.{after_call, after_group, after_leaf}
 use Rattle.expander_model.specs.declared.begun.Begun.{Begun}

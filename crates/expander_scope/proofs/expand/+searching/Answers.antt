@@ -3,7 +3,7 @@ use Rattle.tt_data.specs.Forest.{leaf}
 use Rattle.tt_data.specs.Lent.{leaf_lent}
 use Rattle.expander_model.specs.Definitions.{definition_of}
 use Rattle.std.specs.Prelude.{None, Some, Ok, Err, OnOk}
-use Rattle.expander_model.specs.Held.{numbered_world, unnumbered}
+use Rattle.expander_model.specs.Held.{numbered_world}
 use Rattle.expander_model.specs.World.{world}
 use Rattle.expander_scope.specs.Expanding.{Adds, answer, around_in, defined_under, searched, searched_under, world_under}
 use Rattle.expander_scope.specs.ListsLeft.{IsAhead}
