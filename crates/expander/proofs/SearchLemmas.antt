@@ -31,7 +31,7 @@ use Rattle.expander_model.proofs.SplittingLemmas.{put_together-cut}
 use Rattle.expander_scope.proofs.MarkLemmas.{unmarked-marked}
 use Rattle.expander_scope.proofs.TurnLemmas.{known_search}
 use Rattle.expander_session.proofs.WordLemmas.{is_quiet, quiet_cut}
-use Rattle.textual_scope.proofs.RuleLemmas.{unfound_scoped}
+use Rattle.textual_scope.proofs.RuleLemmas.{unfound_outermost}
 
 -- ---- a failed call
 
@@ -177,7 +177,7 @@ module _ (layers : Layers) (depth : ℕ) where
 
   -- a piece that by the scope rules has no definition inside
   bare_by : layers.world.dialect.cfg ≡ None → (p : Forest) → (layers.world.dialect.scope ≡ Rust → HasNoKeyword p) → IsBare layers depth p
-  bare_by whole p h = ap (λ (a : Scoped Definition). a.outcome) (unfound_scoped layers.world (λ d. d) depth p layers.world.dialect whole h)
+  bare_by whole p h = ap (λ (a : Scoped Definition). a.outcome) (unfound_outermost layers.world (λ d. d) None depth p layers.world.dialect whole h)
 
   -- where a name finds pieces of texts alone
   plainly_bare : layers.world.dialect.scope ≡ TopLevel → layers.world.dialect.cfg ≡ None → (ps : List Forest) → All (IsBare layers depth) ps

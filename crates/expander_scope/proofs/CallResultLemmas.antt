@@ -50,7 +50,8 @@ lookups_among ((key, None) ∷ xs) ys = ap (λ fs. (key, None) ∷ fs) (lookups_
 
 -- the note of a call is no look-up
 pub no_lookups : (b : Bool) (given : Option Forest) → looked_in {D = Numbered} (note_of b given) ≡ []
-no_lookups true given = refl
+no_lookups true None = refl
+no_lookups true (Some g) = refl
 no_lookups false None = refl
 no_lookups false (Some g) = refl
 

@@ -21,7 +21,7 @@ use Rattle.expander_model.specs.WalkSteps.{groups_of, GoesOn}
 use Rattle.expander_model.specs.declared.tree_walk.TreeWalk.{TreeWalk}
 use Rattle.textual_scope.specs.Keywords.{HasNoKeyword}
 use Rattle.textual_scope.proofs.AgreementLemmas.{agree_scoped}
-use Rattle.textual_scope.proofs.RuleLemmas.{unfound_scoped}
+use Rattle.textual_scope.proofs.RuleLemmas.{unfound_outermost}
 use Rattle.expander_scope.proofs.OutcomeLemmas.{followed_nil, left, step_left, nothing_left, walk_search}
 use Rattle.expander_scope.proofs.TurnLemmas.{is_search, leaf_search}
 
@@ -112,7 +112,7 @@ module _ (dialect : Dialect) (world : World Numbered) (depth : ℕ) (f : Forest)
   quiet_scoped scope whole wordless quiet =
       let around : Around = without_locals Top None in
       let is : scoped dialect world unnumbered nothing depth around f ≡ only (just None (walk f)) =
-      unfound_scoped world unnumbered depth f dialect whole wordless ∙ ap only (in_nothing (λ deeper. quiet world nothing deeper None) depth) in
+      unfound_outermost world unnumbered None depth f dialect whole wordless ∙ ap only (in_nothing (λ deeper. quiet world nothing deeper None) depth) in
       agree_scoped dialect world unnumbered nothing scope depth around f
       (subst (λ (a : Scoped Numbered). All (λ find. scope find.0 ≡ find.1) a.outcome.finds) (sym is) (All-nil (λ find. scope find.0 ≡ find.1)))
       ∙ is

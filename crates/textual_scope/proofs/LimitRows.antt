@@ -6,7 +6,7 @@ use Rattle.expander_model.specs.Definitions.{Definition, nearest}
 use Rattle.expander_model.specs.Expansion.{Outcome}
 use Rattle.expander_model.specs.Meaning.{definitions_after}
 use Rattle.expander_model.specs.Pieces.{pieces}
-use Rattle.expander_model.specs.declared.fault.FaultKind.TheVariants.{CannotExpand}
+use Rattle.expander_model.specs.declared.fault.FaultKind.TheVariants.{RecursionLimit}
 use Rattle.expander_model.specs.declared.scope_rules.ScopeRules.TheVariants.{Rust}
 use Rattle.textual_scope.specs.Limits.{bounded}
 use Rattle.expander_model.specs.declared.scope_rules.Standing.TheVariants.{Top}
@@ -20,7 +20,7 @@ scope_of before = nearest (definitions_after [] (pieces (trees before)))
 -- the second line in the scope of the first, by these limits, with three levels
 abbrev limited_to : ℕ → ℕ → String → String → Outcome Definition
 limited_to calls tokens before line =
-    (bounded (by Rust) (toy (by Rust)) (λ d. d) (scope_of before) CannotExpand (record { calls = calls; tokens = tokens }) 3
+    (bounded (by Rust) (toy (by Rust)) (λ d. d) (scope_of before) (record { calls = calls; tokens = tokens }) 3
     (without_locals Top None) (trees line)).outcome
 
 -- the same without limits
@@ -44,7 +44,7 @@ one_call_less = refl
 one_token_less : printed (limited_to 7 41 "macro_rules ! d { d ! { } d ! { } }" "{ d ! { } }") ≡ words "{ d ! { } }"
 one_token_less = refl
 
-one_fault : map (λ x. x.0) (limited_to 6 42 "macro_rules ! d { d ! { } d ! { } }" "d ! { }").faults ≡ CannotExpand ∷ []
+one_fault : map (λ x. x.0) (limited_to 6 42 "macro_rules ! d { d ! { } d ! { } }" "d ! { }").faults ≡ RecursionLimit ∷ []
 one_fault = refl
 
 -- the third result passes the limit; its call was looked up before
@@ -61,7 +61,7 @@ no_call_at_all = refl
 -- a `;` goes with a call that is replaced, and stays behind one that makes too much
 abbrev items_by : ℕ → Outcome Definition
 items_by calls =
-    (bounded with_items (toy with_items) (λ d. d) (scope_of "macro_rules ! m { 1 }") CannotExpand (record { calls = calls; tokens = 1 }) 3
+    (bounded with_items (toy with_items) (λ d. d) (scope_of "macro_rules ! m { 1 }") (record { calls = calls; tokens = 1 }) 3
     (without_locals Top None) (trees "m ! ( ) ;")).outcome
 
 end_goes : printed (items_by 1) ≡ words "1"

@@ -68,7 +68,8 @@ module _ {D : Type 0} where
 
   -- a note before a result
   unnoted-noting : (b : Bool) (r : Option Forest) (a : Scoped (Noted D)) → unnoted (noting (note_of b r) a) ≡ unnoted a
-  unnoted-noting true r a = refl
+  unnoted-noting true None a = refl
+  unnoted-noting true (Some f) a = refl
   unnoted-noting false None a = refl
   unnoted-noting false (Some f) a = refl
 

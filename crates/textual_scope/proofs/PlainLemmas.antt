@@ -1,6 +1,7 @@
 -- Where no list has a definition, a search is an expansion, and defines nothing.
-use Rattle.std.proofs.Common.{◌≡◌, ◌⊎◌, inl, inr, ℕ, zero, suc, ◌<◌, ◌≤◌, Bool, true, false, List, [], ◌∷◌, Option, Some, None, refl, ap, ◌∙◌, arith, unwrap_or, if◌then◌else◌}
-use Rattle.std.specs.Prelude.{◌&&◌, option_map}
+use Rattle.std.proofs.Common.{◌≡◌, ◌⊎◌, inl, inr, ℕ, zero, suc, ◌<◌, ◌≤◌, Bool, true, false, List, [], ◌∷◌, Option, Some, None, refl, ap, sym, ◌∙◌, arith, unwrap_or, if◌then◌else◌}
+use Rattle.std.specs.Prelude.{◌&&◌}
+use Rattle.textual_scope.specs.Limits.{Limits, limited, outermost}
 use Rattle.tt_data.specs.Forest.{Forest, size}
 use Rattle.tt_data.specs.Walk.{at_leaf, walk}
 use Rattle.tt_data.specs.declared.delimiter.Delimiter.{Delimiter}
@@ -53,15 +54,16 @@ module _ {D : Type 0} (dialect : Dialect) (world : World D) (local : Definition 
   abbrev Same : Search D → (Option Span → Forest → Outcome D) → Type 0
   Same search deeper = (standing : Standing) (outer : Option Span) (f : Forest) → Plain f → search (without_locals standing outer) f ≡ only (deeper outer f)
 
-  abbrev SameDeeper : Option (Search D) → Deeper D → Type 0
-  SameDeeper None None = Unit {0}
-  SameDeeper (Some search) (Some deeper) = Same search deeper
-  SameDeeper None (Some deeper) = ⊥
-  SameDeeper (Some search) None = ⊥
+  -- a call of a definition that is found gives what it gives where no list has definitions
+  abbrev SameFrom : Expander D → (Option Span → Forest → Outcome D) → Type 0
+  SameFrom expand deeper = (key : List ℕ) (d : D) → scope key ≡ Some d → (standing : Standing) (outer : Option Span) (site : CallSite) → Plain site.argument
+      → (expand d (without_locals standing outer) site).given ≡ only (bursting (world.bursts d site.argument) (expanding.fitted deeper outer site (world.fit d site.argument)))
 
-  -- calls whose results are searched so, or none
-  abbrev tried : Option (Search D) → Option (Expander D)
-  tried = option_map (attempt dialect world local scope)
+  abbrev SameDeeper : Option (Expander D) → Deeper D → Type 0
+  SameDeeper None None = Unit {0}
+  SameDeeper (Some expand) (Some deeper) = SameFrom expand deeper
+  SameDeeper None (Some deeper) = ⊥
+  SameDeeper (Some expand) None = ⊥
 
   module _ (standing : Standing) (outer : Option Span) (site : CallSite) (plain : Plain site.argument) where
     fits : (search : Search D) (deeper : Option Span → Forest → Outcome D) → Same search deeper → (r : Option Forest) → ((g : Forest) → r ≡ Some g → Plain g)
@@ -69,34 +71,31 @@ module _ {D : Type 0} (dialect : Dialect) (world : World D) (local : Definition 
     fits search deeper same None h = refl
     fits search deeper same (Some g) h = same standing (Some (unwrap_or outer site.at)) g (h g refl)
 
-    levels : (d : D) (search : Option (Search D)) (deeper : Deeper D) → SameDeeper search deeper → ((g : Forest) → world.fit d site.argument ≡ Some g → Plain g)
-        → at_level dialect world local scope d (tried search) (without_locals standing outer) site ≡ only (expanding.at_level world d deeper outer site)
-    levels d None None same h = refl
-    levels d (Some search) (Some deeper) same h =
-        ap (λ (a : Scoped D). record a { outcome = bursting (world.bursts d site.argument) a.outcome }) (fits search deeper same (world.fit d site.argument) h)
-    levels d None (Some deeper) same h = absurd same
-    levels d (Some search) None same h = absurd same
+    levels : (key : List ℕ) (d : D) → scope key ≡ Some d → (search : Option (Expander D)) (deeper : Deeper D) → SameDeeper search deeper
+        → at_level dialect world local scope d search (without_locals standing outer) site ≡ only (expanding.at_level world d deeper outer site)
+    levels key d e None None same = refl
+    levels key d e (Some expand) (Some deeper) same = same key d e standing outer site plain
+    levels key d e None (Some deeper) same = absurd same
+    levels key d e (Some expand) None same = absurd same
 
-    valid : (d : D) (b : Bool) (search : Option (Search D)) (deeper : Deeper D) → SameDeeper search deeper → ((g : Forest) → world.fit d site.argument ≡ Some g → Plain g)
-        → unbroken dialect world local scope d b (tried search) (without_locals standing outer) site ≡ only (expanding.unbroken world d b deeper outer site)
-    valid d true search deeper same h = refl
-    valid d false search deeper same h = levels d search deeper same h
+    valid : (key : List ℕ) (d : D) → scope key ≡ Some d → (b : Bool) (search : Option (Expander D)) (deeper : Deeper D) → SameDeeper search deeper
+        → unbroken dialect world local scope d b search (without_locals standing outer) site ≡ only (expanding.unbroken world d b deeper outer site)
+    valid key d e true search deeper same = refl
+    valid key d e false search deeper same = levels key d e search deeper same
 
-    looks : (r : Option D) (search : Option (Search D)) (deeper : Deeper D) → SameDeeper search deeper
-        → ((d : D) → r ≡ Some d → (g : Forest) → world.fit d site.argument ≡ Some g → Plain g) → (kept : Outcome D)
-        → looked_up dialect world local scope r (tried search) (without_locals standing outer) site (only kept) ≡ only (expanding.looked_up world r deeper outer site kept)
-    looks None search deeper same h kept = refl
-    looks (Some d) search deeper same h kept = valid d (world.broken d) search deeper same (h d refl)
+    looks : (key : List ℕ) (r : Option D) → scope key ≡ r → (search : Option (Expander D)) (deeper : Deeper D) → SameDeeper search deeper → (kept : Outcome D)
+        → looked_up dialect world local scope r search (without_locals standing outer) site (only kept) ≡ only (expanding.looked_up world r deeper outer site kept)
+    looks key None e search deeper same kept = refl
+    looks key (Some d) e search deeper same kept = valid key d e (world.broken d) search deeper same
 
-    keyed : (key : List ℕ) (search : Option (Search D)) (deeper : Deeper D) → SameDeeper search deeper → (kept : Outcome D)
-        → at_key dialect world local scope None key (tried search) (without_locals standing outer) site (only kept)
+    keyed : (key : List ℕ) (search : Option (Expander D)) (deeper : Deeper D) → SameDeeper search deeper → (kept : Outcome D)
+        → at_key dialect world local scope None key search (without_locals standing outer) site (only kept)
         ≡ only (found key (scope key) (expanding.looked_up world (scope key) deeper outer site kept))
     keyed key search deeper same kept =
-        ap (λ (a : Scoped D). record a { outcome = found key (scope key) a.outcome })
-        (looks (scope key) search deeper same (λ d e g fit. has.results key d e site.argument g plain fit) kept)
+        ap (λ (a : Scoped D). record a { outcome = found key (scope key) a.outcome }) (looks key (scope key) refl search deeper same kept)
 
-    calls : (path : Path) (name : Ident) (search : Option (Search D)) (deeper : Deeper D) → SameDeeper search deeper → (kept : Outcome D)
-        → at_call dialect world local scope (tried search) (without_locals standing outer) path name site (only kept)
+    calls : (path : Path) (name : Ident) (search : Option (Expander D)) (deeper : Deeper D) → SameDeeper search deeper → (kept : Outcome D)
+        → at_call dialect world local scope search (without_locals standing outer) path name site (only kept)
         ≡ only (expanding.at_call world scope deeper outer path name site kept)
     calls bare name search deeper same kept = keyed name.sym search deeper same kept
     calls (from_crate root p q) name search deeper same kept = keyed (key_of (from_crate root p q) name) search deeper same kept
@@ -130,7 +129,7 @@ module _ {D : Type 0} (dialect : Dialect) (world : World D) (local : Definition 
   bracketed : (outer : Option Span) (d : Delimiter) (o : Outcome D) → in_brackets outer d (only o) ≡ only (grouped outer d o)
   bracketed outer d o = ap (λ (ds : List Definition). record { outcome = grouped outer d o; defines = ds }) (hides (is_visible d.kind))
 
-  module _ (deep : Option (Search D)) (deeper : Deeper D) (same : SameDeeper deep deeper) where
+  module _ (deep : Option (Expander D)) (deeper : Deeper D) (same : SameDeeper deep deeper) where
     abbrev expands : Option Span → Marked → Outcome D
     expands outer m = search_calls world scope deeper outer m
 
@@ -144,61 +143,77 @@ module _ {D : Type 0} (dialect : Dialect) (world : World D) (local : Definition 
       held standing outer a h plain = below standing outer (unmarked a) h.less plain ∙ ap (λ m. only (expands outer m)) h.same
 
       trees : (s : Begun) → IsShown s → (standing : Standing) (outer : Option Span) (m : Marked) → AllInside (IsBelow k) m → AllInside (λ a. Plain (unmarked a)) m
-          → search_trees dialect world local scope search (tried deep) s (without_locals standing outer) m ≡ only (expands outer m)
+          → search_trees dialect world local scope search deep s (without_locals standing outer) m ≡ only (expands outer m)
       trees s shown standing outer none h plain = refl
       trees s shown standing outer (token l rest) h plain =
           same_next (only (just outer (at_leaf l ∷ []))) (search_leaf dialect world local scope s (without_locals standing outer) l)
-          (λ here. only (expands outer rest)) (λ here. search_trees dialect world local scope search (tried deep) (after_leaf s l) here rest)
+          (λ here. only (expands outer rest)) (λ here. search_trees dialect world local scope search deep (after_leaf s l) here rest)
           (without_locals standing outer)
           (ap (λ (b : Bool). let o : Outcome D = just outer (if b then [] else at_leaf l ∷ []) in only o) (shown_leaf s l shown))
           (trees (after_leaf s l) (leaf_shown s l) standing outer rest h plain)
       trees s shown standing outer (inside d a rest) h plain =
           let within : Standing = in_group s d.kind standing in
           same_next (only (grouped outer d (expands outer a))) (in_brackets outer d (search (without_locals within outer) (unmarked a)))
-          (λ here. only (expands outer rest)) (λ here. search_trees dialect world local scope search (tried deep) (after_group s d.kind) here rest)
+          (λ here. only (expands outer rest)) (λ here. search_trees dialect world local scope search deep (after_group s d.kind) here rest)
           (without_locals standing outer)
           (ap (in_brackets outer d) (held within outer a h.0 plain.0) ∙ bracketed outer d (expands outer a))
           (trees (after_group s d.kind) (group_shown s d.kind) standing outer rest h.1 plain.1)
       trees s shown standing outer (call path name bang d a rest) h plain =
           let site : CallSite = call_site path name bang d (unmarked a) in
-          let gone : Bool = takes_end dialect world local scope (tried deep) s (without_locals standing outer) path name d site in
-          let stays : gone ≡ false = takes_none (tried deep) s standing outer path name d site has.keeps in
+          let gone : Bool = takes_end dialect world local scope deep s (without_locals standing outer) path name d site in
+          let stays : gone ≡ false = takes_none deep s standing outer path name d site has.keeps in
           let before : Outcome D = just outer (walk (before_group path name bang)) in
           let of : Scoped D → Scoped D = λ x.
-          at_call dialect world local scope (tried deep) (without_locals standing outer) path name site (only (followed_by before (grouped outer d x.outcome))) in
+          at_call dialect world local scope deep (without_locals standing outer) path name site (only (followed_by before (grouped outer d x.outcome))) in
           let kept : Outcome D = followed_by before (grouped outer d (expands outer a)) in
           same_next (only (expanding.at_call world scope deeper outer path name site kept)) (of (search (without_locals Argument outer) (unmarked a)))
-          (λ here. only (expands outer rest)) (λ here. search_trees dialect world local scope search (tried deep) (after_call gone s d.kind) here rest)
+          (λ here. only (expands outer rest)) (λ here. search_trees dialect world local scope search deep (after_call gone s d.kind) here rest)
           (without_locals standing outer)
           (ap of (held Argument outer a h.0 plain.0) ∙ calls standing outer site plain.0 path name deep deeper same kept)
           (trees (after_call gone s d.kind) (call_shown gone s d.kind stays) standing outer rest h.1 plain.1)
 
       part : (standing : Standing) (outer : Option Span) (p : Forest) (r : PieceKind) → r ≡ plain_piece → size p ≤ k → Plain p
-          → search_piece dialect world local scope search (tried deep) (without_locals standing outer) p r ≡ only (expands outer (marked p))
+          → search_piece dialect world local scope search deep (without_locals standing outer) p r ≡ only (expands outer (marked p))
       part standing outer p plain_piece e h plain = trees Nothing tt standing outer (marked p) (inside_marked k p h) (has.inner p plain)
       part standing outer p (definition_piece d) e h plain = absurd (cc e)
       part standing outer p out_piece e h plain = absurd (cc e)
 
       all_parts : (standing : Standing) (outer : Option Span) (ps : List Forest) → AreWithin k ps → ArePlain dialect.scope Plain ps
-          → search_pieces dialect world local scope search (tried deep) (without_locals standing outer) ps ≡ only (each world scope deeper outer ps)
+          → search_pieces dialect world local scope search deep (without_locals standing outer) ps ≡ only (each world scope deeper outer ps)
       all_parts standing outer [] h plain = refl
       all_parts standing outer (p ∷ ps) h plain =
-          same_next (only (expands outer (marked p))) (search_piece dialect world local scope search (tried deep) (without_locals standing outer) p (kind_in dialect standing p))
-          (λ here. only (each world scope deeper outer ps)) (λ here. search_pieces dialect world local scope search (tried deep) here ps)
+          same_next (only (expands outer (marked p))) (search_piece dialect world local scope search deep (without_locals standing outer) p (kind_in dialect standing p))
+          (λ here. only (each world scope deeper outer ps)) (λ here. search_pieces dialect world local scope search deep here ps)
           (without_locals standing outer) (part standing outer p (kind_in dialect standing p) (kind_plain dialect standing p has.whole plain.0) h.0 plain.1) (all_parts standing outer ps h.1 plain.2)
 
     within_more : (n : ℕ) (ps : List Forest) (k : ℕ) → k ≤ n → AreWithin k ps → AreWithin n ps
     within_more n [] k less h = tt
     within_more n (p ∷ ps) k less h = (omega (arith, less, h.0), within_more n ps k less h.1)
 
-    lists : (n : ℕ) → SameBelow n (search_list dialect world local scope (tried deep) n)
+    lists : (n : ℕ) → SameBelow n (search_list dialect world local scope deep n)
     lists zero standing outer f less plain = absurd (omega (arith, less))
     lists (suc n) standing outer f less plain =
-        all_parts n (search_list dialect world local scope (tried deep) n) (lists n) standing outer (cut f)
+        all_parts n (search_list dialect world local scope deep n) (lists n) standing outer (cut f)
         (within_more n (cut f) (size f) (omega (arith, less)) (within_parts f)) (has.in_parts f plain)
         ∙ ap only (piece_by_piece world scope deeper outer f)
+
+  -- where results are searched as lists without definitions are
+  same_attempt : (search : Search D) (deeper : Option Span → Forest → Outcome D) → Same search deeper → SameFrom (attempt dialect world local scope search) deeper
+  same_attempt search deeper same key d e standing outer site plain =
+      ap (λ (a : Scoped D). record a { outcome = bursting (world.bursts d site.argument) a.outcome })
+      (fits standing outer site plain search deeper same (world.fit d site.argument) (λ g fit. has.results key d e site.argument g plain fit))
 
   pub as_expansion : (depth : ℕ) → Same (scoped dialect world local scope depth) (expansion world scope depth)
   as_expansion zero standing outer f plain = lists None None tt (suc (size f)) standing outer f (omega arith) plain
   as_expansion (suc n) standing outer f plain =
-      lists (Some (scoped dialect world local scope n)) (Some (expansion world scope n)) (as_expansion n) (suc (size f)) standing outer f (omega arith) plain
+      let search : Search D = scoped dialect world local scope n in
+      lists (Some (attempt dialect world local scope search)) (Some (expansion world scope n)) (same_attempt search (expansion world scope n) (as_expansion n))
+      (suc (size f)) standing outer f (omega arith) plain
+
+  -- by limits too, where names find nothing
+  pub as_outermost : ((key : List ℕ) → scope key ≡ None) → (o : Option Limits) (depth : ℕ) → Same (outermost dialect world local scope o depth) (expansion world scope depth)
+  as_outermost nothing None depth standing outer f plain = as_expansion depth standing outer f plain
+  as_outermost nothing (Some limits) zero standing outer f plain = lists None None tt (suc (size f)) standing outer f (omega arith) plain
+  as_outermost nothing (Some limits) (suc n) standing outer f plain =
+      lists (Some (limited dialect world local scope limits n)) (Some (expansion world scope n))
+      (λ key d e. absurd (let both : None ≡ Some d = sym (nothing key) ∙ e in cc both)) (suc (size f)) standing outer f (omega arith) plain

@@ -17,7 +17,7 @@ use Rattle.expander_model.specs.PieceStates.{after_call, after_group, after_leaf
 use Rattle.expander_model.specs.declared.begun.Begun.{Begun}
 use Rattle.expander_model.specs.declared.begun.Begun.TheVariants.{Nothing}
 use Rattle.expander_model.specs.declared.dialect.Dialect.{Dialect}
-use Rattle.textual_scope.specs.Limits.{Limits, Noted, definition, result, burst, note_of, noted_world, noted_fit, noted_bursts, noting, noted_list, plain_attempt, noted_attempt, noted, until_passed, too_large}
+use Rattle.textual_scope.specs.Limits.{Limits, Noted, definition, result, burst, note_of, noted_world, noted_fit, noted_bursts, noting, noted_list, plain_attempt, noted_attempt, noted, until_passed, too_large, Passed, passed_at_once, found_before, burst_before, size_note}
 use Rattle.expander_model.specs.declared.scope_rules.Standing.TheVariants.{Argument}
 use Rattle.expander_model.specs.Scoping.{call_site, Around, Scoped, Search, Expander, Attempt, PieceKind, out_piece, definition_piece, plain_piece, kind_in, in_group, behind, only, and_next, in_brackets, is_left_out, fitted, at_level, unbroken, looked_up, at_key, at_call, search_leaf, found_at, is_replaced, is_alone_in, takes_end, search_trees, search_piece, search_pieces}
 use Rattle.textual_scope.proofs.ResultLemmas.{same_next}
@@ -89,53 +89,67 @@ module _ {D : Type 0} (others : List ℕ → Option D) where
   Same find = others find.0 ≡ find.1
 
   -- a look-up before what follows it
-  look : (x : List ℕ × Option D) (o u : Option Finds) (finds : Finds) → (Same x → (fs : Finds) → o ≡ Some fs → All Same fs → u ≡ Some (x ∷ fs))
-      → option_map (λ fs. x ∷ fs) o ≡ Some finds → All Same finds → u ≡ Some finds
-  look x None u finds h e all = absurd (cc e)
-  look x (Some fs) u finds h e all =
-      let same : x ∷ fs ≡ finds = cc in
-      let agreed : All Same (x ∷ fs) = subst (All Same) (sym same) all in
-      h (All-head Same x fs agreed) fs refl (All-tail Same x fs agreed) ∙ e
+  look : (x : List ℕ × Option D) (o u : Option (Passed D)) (p : Passed D) → (Same x → (q : Passed D) → o ≡ Some q → All Same q.finds → u ≡ Some (found_before x q))
+      → option_map (found_before x) o ≡ Some p → All Same p.finds → u ≡ Some p
+  look x None u p h e all = absurd (cc e)
+  look x (Some q) u p h e all =
+      let same : found_before x q ≡ p = cc in
+      let agreed : All Same (x ∷ q.finds) = subst (λ (v : Passed D). All Same v.finds) (sym same) all in
+      h (All-head Same x q.finds agreed) q refl (All-tail Same x q.finds agreed) ∙ e
 
-  -- a limit that is passed is passed by what follows
-  -- a note before two results
+  -- too many tokens before what follows
+  burst_first : (o u : Option (Passed D)) (p : Passed D) → ((q : Passed D) → o ≡ Some q → All Same q.finds → u ≡ Some (burst_before q))
+      → option_map burst_before o ≡ Some p → All Same p.finds → u ≡ Some p
+  burst_first None u p h e all = absurd (cc e)
+  burst_first (Some q) u p h e all =
+      let same : burst_before q ≡ p = cc in
+      h q refl (subst (λ (v : Passed D). All Same v.finds) (sym same) all) ∙ e
+
+  -- notes before two results
+  both_burst : (a b : Scoped (Noted D)) → Both a b → Both (noting (([], Some burst) ∷ []) a) (noting (([], Some burst) ∷ []) b)
+  both_burst a b h = record {
+    follow = λ agrees. (b.outcome.finds, (refl, h.follow));
+    same = λ k. ap (noting (([], Some burst) ∷ [])) (h.same k.1);
+  }
+
+  both_size : (r : Option Forest) (a b : Scoped (Noted D)) → Both a b → Both (noting (size_note r) a) (noting (size_note r) b)
+  both_size None a b h = h
+  both_size (Some f) a b h = record {
+    follow = λ agrees. (b.outcome.finds, (refl, h.follow));
+    same = λ k. ap (noting (size_note (Some f))) (h.same k.1);
+  }
+
   both_noting : (c : Bool) (r : Option Forest) (a b : Scoped (Noted D)) → Both a b → Both (noting (note_of c r) a) (noting (note_of c r) b)
-  both_noting true r a b h = record {
-    follow = λ agrees. (b.outcome.finds, (refl, h.follow));
-    same = λ k. ap (noting (note_of true r)) (h.same k.1);
-  }
-  both_noting false None a b h = h
-  both_noting false (Some f) a b h = record {
-    follow = λ agrees. (b.outcome.finds, (refl, h.follow));
-    same = λ k. ap (noting (note_of false (Some f))) (h.same k.1);
-  }
+  both_noting true r a b h = both_burst (noting (size_note r) a) (noting (size_note r) b) (both_size r a b h)
+  both_noting false r a b h = both_size r a b h
 
-  pub passed_too : (a b : List Note) (calls tokens : ℕ) (finds : Finds) → Follow a b → until_passed calls tokens a ≡ Some finds
-      → All Same finds → until_passed calls tokens b ≡ Some finds
-  passed_too [] b calls tokens finds h e all = absurd (cc e)
-  passed_too ((key, Some burst) ∷ a) b calls tokens finds h e all =
+  pub passed_too : (a b : List Note) (calls tokens : ℕ) (p : Passed D) → Follow a b → until_passed calls tokens a ≡ Some p
+      → All Same p.finds → until_passed calls tokens b ≡ Some p
+  passed_too [] b calls tokens p h e all = absurd (cc e)
+  passed_too ((key, Some burst) ∷ a) b calls tokens p h e all =
       let next : (c : List Note) × ((b ≡ (key, Some burst) ∷ c) × Follow a c) = h tt in
-      ap (until_passed calls tokens) next.1.0 ∙ e
-  passed_too ((key, Some (result n)) ∷ a) b calls tokens finds h e all =
+      burst_first (until_passed calls tokens a) (until_passed calls tokens b) p
+      (λ q is rest. ap (until_passed calls tokens) next.1.0 ∙ ap (option_map burst_before) (passed_too a next.0 calls tokens q next.1.1 is rest)) e all
+  passed_too ((key, Some (result n)) ∷ a) b calls tokens p h e all =
       let next : (c : List Note) × ((b ≡ (key, Some (result n)) ∷ c) × Follow a c) = h tt in
       ap (until_passed calls tokens) next.1.0
-      ∙ go (nat_eq calls 0 || nat_lt tokens n) next.0 (λ k. passed_too a next.0 (calls - 1) (tokens - n) finds next.1.1 k all) e
+      ∙ go (nat_eq calls 0 || nat_lt tokens n) next.0 (λ k. passed_too a next.0 (calls - 1) (tokens - n) p next.1.1 k all) e
     where
-      go : (t : Bool) (c : List Note) → (until_passed (calls - 1) (tokens - n) a ≡ Some finds → until_passed (calls - 1) (tokens - n) c ≡ Some finds)
-          → (if t then Some [] else until_passed (calls - 1) (tokens - n) a) ≡ Some finds
-          → (if t then Some [] else until_passed (calls - 1) (tokens - n) c) ≡ Some finds
+      go : (t : Bool) (c : List Note) → (until_passed (calls - 1) (tokens - n) a ≡ Some p → until_passed (calls - 1) (tokens - n) c ≡ Some p)
+          → (if t then Some passed_at_once else until_passed (calls - 1) (tokens - n) a) ≡ Some p
+          → (if t then Some passed_at_once else until_passed (calls - 1) (tokens - n) c) ≡ Some p
       go true c more k = k
       go false c more k = more k
-  passed_too ((key, Some (definition d)) ∷ a) b calls tokens finds h e all =
-      look (key, Some d) (until_passed calls tokens a) (until_passed calls tokens b) finds
-      (λ agrees fs is rest.
+  passed_too ((key, Some (definition d)) ∷ a) b calls tokens p h e all =
+      look (key, Some d) (until_passed calls tokens a) (until_passed calls tokens b) p
+      (λ agrees q is rest.
       let next : (c : List Note) × ((b ≡ (key, Some (definition d)) ∷ c) × Follow a c) = h agrees in
-      ap (until_passed calls tokens) next.1.0 ∙ ap (option_map (λ gs. (key, Some d) ∷ gs)) (passed_too a next.0 calls tokens fs next.1.1 is rest)) e all
-  passed_too ((key, None) ∷ a) b calls tokens finds h e all =
-      look (key, None) (until_passed calls tokens a) (until_passed calls tokens b) finds
-      (λ agrees fs is rest.
+      ap (until_passed calls tokens) next.1.0 ∙ ap (option_map (found_before (key, Some d))) (passed_too a next.0 calls tokens q next.1.1 is rest)) e all
+  passed_too ((key, None) ∷ a) b calls tokens p h e all =
+      look (key, None) (until_passed calls tokens a) (until_passed calls tokens b) p
+      (λ agrees q is rest.
       let next : (c : List Note) × ((b ≡ (key, None) ∷ c) × Follow a c) = h agrees in
-      ap (until_passed calls tokens) next.1.0 ∙ ap (option_map (λ gs. (key, None) ∷ gs)) (passed_too a next.0 calls tokens fs next.1.1 is rest)) e all
+      ap (until_passed calls tokens) next.1.0 ∙ ap (option_map (found_before (key, None))) (passed_too a next.0 calls tokens q next.1.1 is rest)) e all
 
 -- ---- two scopes
 
@@ -377,12 +391,12 @@ module _ {D : Type 0} (dialect : Dialect) (world : World D) (local : Definition 
       (both_tried one two (λ here g. both_noted n here g)) (suc (size f)) around f
 
   -- the law
-  pub refused_too : (limits : Limits) (n : ℕ) (d : D) (around : Around) (site : CallSite) (finds : List (List ℕ × Option D))
-      → too_large dialect world local scope limits n d around site ≡ Some finds
-      → All (λ find. others find.0 ≡ find.1) finds → too_large dialect world local others limits n d around site ≡ Some finds
-  refused_too limits n d around site finds e all =
+  pub refused_too : (limits : Limits) (n : ℕ) (d : D) (around : Around) (site : CallSite) (p : Passed D)
+      → too_large dialect world local scope limits n d around site ≡ Some p
+      → All (λ find. others find.0 ≡ find.1) p.finds → too_large dialect world local others limits n d around site ≡ Some p
+  refused_too limits n d around site p e all =
       let one : Search (Noted D) = noted dialect world local scope n in
       let two : Search (Noted D) = noted dialect world local others n in
       passed_too others (noted_attempt dialect world local scope one (definition d) around site).given.outcome.finds
       (noted_attempt dialect world local others two (definition d) around site).given.outcome.finds
-      limits.calls limits.tokens finds (both_tried one two (both_noted n) (definition d) around site).given.follow e all
+      limits.calls limits.tokens p (both_tried one two (both_noted n) (definition d) around site).given.follow e all

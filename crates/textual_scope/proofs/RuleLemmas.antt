@@ -13,6 +13,7 @@ use Rattle.expander_model.specs.declared.scope_rules.ScopeRules.{ScopeRules}
 use Rattle.expander_model.specs.Dialects as dialects
 use Rattle.expander_model.specs.Pieces.{cut, pieces}
 use Rattle.expander_model.specs.declared.dialect.Dialect.{Dialect}
+use Rattle.textual_scope.specs.Limits.{Limits, outermost}
 use Rattle.expander_model.specs.declared.scope_rules.ScopeRules.TheVariants.{TopLevel, Rust}
 use Rattle.textual_scope.specs.Keywords.{HasNoKeyword, AddsNoKeyword, NestsNone}
 use Rattle.textual_scope.specs.TopLevelMeaning.{top_member, top_members, top_over, top_meaning}
@@ -21,7 +22,7 @@ use Rattle.expander_model.specs.declared.scope_rules.Standing.{Standing}
 use Rattle.expander_model.specs.Scoping.{without_locals, Scoped, found_in, is_out, only, scoped, expanded}
 use Rattle.textual_scope.proofs.KeywordLemmas.{plain_pieces, none_inside}
 use Rattle.textual_scope.proofs.MarkLemmas.{AllInside}
-use Rattle.textual_scope.proofs.PlainLemmas.{ArePlain, HasNone, as_expansion}
+use Rattle.textual_scope.proofs.PlainLemmas.{as_outermost, ArePlain, HasNone, as_expansion}
 
 abbrev Any : Forest → Type 0
 Any f = Unit {0}
@@ -87,32 +88,34 @@ module _ (world : World Definition) (local : Definition → Definition) (scope :
   wordless_expanded keeps whole depth f h = ap (λ (a : Scoped Definition). a.outcome) (no_keyword_in world.dialect keeps whole depth Top None f h)
 
 -- where names find nothing outside of lists, trees have no definitions if by the rules they have no keyword of one
-module _ {D : Type 0} (world : World D) (local : Definition → D) (depth : ℕ) (f : Forest) where
+module _ {D : Type 0} (world : World D) (local : Definition → D) (limits : Option Limits) (depth : ℕ) (f : Forest) where
   abbrev Unfound : Dialect → Type 0
-  Unfound dialect = scoped dialect world local (λ key. None) depth (without_locals Top None) f ≡ only (expansion world (λ key. None) depth None f)
+  Unfound dialect = outermost dialect world local (λ key. None) limits depth (without_locals Top None) f ≡ only (expansion world (λ key. None) depth None f)
 
   unfound_by : (rules : ScopeRules) (items : Bool) → (rules ≡ Rust → HasNoKeyword f) → Unfound (record { scope = rules; items = items; cfg = None })
   unfound_by TopLevel items h =
-      as_expansion (record { scope = TopLevel; items = items; cfg = None }) world local (λ key. None) Any
+      let dialect : Dialect = record { scope = TopLevel; items = items; cfg = None } in
+      as_outermost dialect world local (λ key. None) Any
       (record {
         in_parts = λ g k. any_pieces (cut g);
         keeps = inr (λ key. refl);
         whole = refl;
         inner = λ g k. any_inside (marked g);
         results = λ key d e argument result k fit. tt;
-      }) depth Top None f tt
+      }) (λ key. refl) limits depth Top None f tt
   unfound_by Rust items h =
-      as_expansion (record { scope = Rust; items = items; cfg = None }) world local (λ key. None) HasNoKeyword
+      let dialect : Dialect = record { scope = Rust; items = items; cfg = None } in
+      as_outermost dialect world local (λ key. None) HasNoKeyword
       (record {
         in_parts = plain_pieces;
         keeps = inr (λ key. refl);
         whole = refl;
         inner = none_inside;
         results = λ key d e argument result k fit. absurd (cc e);
-      }) depth Top None f (h refl)
+      }) (λ key. refl) limits depth Top None f (h refl)
 
-  pub unfound_scoped : (dialect : Dialect) → dialect.cfg ≡ None → (dialect.scope ≡ Rust → HasNoKeyword f) → Unfound dialect
-  unfound_scoped dialect whole h =
+  pub unfound_outermost : (dialect : Dialect) → dialect.cfg ≡ None → (dialect.scope ≡ Rust → HasNoKeyword f) → Unfound dialect
+  unfound_outermost dialect whole h =
       subst (λ c. Unfound (record { scope = dialect.scope; items = dialect.items; cfg = c })) (sym whole) (unfound_by dialect.scope dialect.items h)
 
 -- what the nearest definition of a name has, if all definitions have it

@@ -5,7 +5,7 @@ use Rattle.tt_data.specs.Forest.{Forest, size}
 use Rattle.expander_model.specs.Definitions.{Definition}
 use Rattle.expander_model.specs.Expansion.{World, Outcome, CallSite, stays}
 use Rattle.expander_model.specs.declared.dialect.Dialect.{Dialect}
-use Rattle.expander_model.specs.declared.fault.FaultKind.{FaultKind}
+use Rattle.expander_model.specs.declared.fault.FaultKind.TheVariants.{RecursionLimit}
 use Rattle.expander_model.specs.Scoping.{Around, Scoped, Search, Attempt, Expander, attempt, only, scoped, search_list}
 
 -- at most so many calls, and so many tokens
@@ -46,11 +46,15 @@ noted_world world = record {
 abbrev pub Notes : Type 0 → Type 0
 Notes D = List (List ℕ × Option (Noted D))
 
--- the note of a call for which a rule puts out too much or not, and which gives this or nothing
+-- the note of what a call gives, if it gives something
+abbrev pub size_note : {D : Type 0} → Option Forest → Notes D
+size_note None = []
+size_note (Some f) = ([], Some (result (size f))) ∷ []
+
+-- the notes of a call for which a rule puts out too much or not, and which gives this or nothing
 abbrev pub note_of : {D : Type 0} → Bool → Option Forest → Notes D
-note_of true given = ([], Some burst) ∷ []
-note_of false None = []
-note_of false (Some f) = ([], Some (result (size f))) ∷ []
+note_of true given = ([], Some burst) ∷ size_note given
+note_of false given = size_note given
 
 -- a result with notes before its own
 abbrev pub noting : {D : Type 0} → Notes D → Scoped (Noted D) → Scoped (Noted D)
@@ -78,26 +82,45 @@ unnoted a = record {
   defines = a.defines;
 }
 
--- the look-ups before a limit is passed, where so many calls and tokens are left; or none is
-abbrev pub until_passed : {D : Type 0} → ℕ → ℕ → Notes D → Option (List (List ℕ × Option D))
+-- what comes before a limit is passed: the look-ups, and whether a rule puts out more tokens than
+-- a tree may have
+pub record Passed (D : Type 0) : Type 0 where
+  pub finds : List (List ℕ × Option D)
+  pub bursts : Bool
+
+-- nothing comes before
+abbrev pub passed_at_once : {D : Type 0} → Passed D
+passed_at_once = record { finds = []; bursts = false }
+
+abbrev pub found_before : {D : Type 0} → (List ℕ × Option D) → Passed D → Passed D
+found_before find p = record p { finds = find ∷ p.finds }
+
+abbrev pub burst_before : {D : Type 0} → Passed D → Passed D
+burst_before p = record p { bursts = true }
+
+-- what comes before a limit is passed, where so many calls and tokens are left; or none is passed
+abbrev pub until_passed : {D : Type 0} → ℕ → ℕ → Notes D → Option (Passed D)
 until_passed calls tokens [] = None
-until_passed calls tokens ((key, Some burst) ∷ notes) = Some []
+until_passed calls tokens ((key, Some burst) ∷ notes) =
+    option_map burst_before (until_passed calls tokens notes)
 until_passed calls tokens ((key, Some (result n)) ∷ notes) =
-    if nat_eq calls 0 || nat_lt tokens n then Some []
+    if nat_eq calls 0 || nat_lt tokens n then Some passed_at_once
     else until_passed (calls - 1) (tokens - n) notes
 until_passed calls tokens ((key, Some (definition d)) ∷ notes) =
-    option_map (λ finds. (key, Some d) ∷ finds) (until_passed calls tokens notes)
+    option_map (found_before (key, Some d)) (until_passed calls tokens notes)
 until_passed calls tokens ((key, None) ∷ notes) =
-    option_map (λ finds. (key, None) ∷ finds) (until_passed calls tokens notes)
+    option_map (found_before (key, None)) (until_passed calls tokens notes)
 
 -- an attempt at a call: where a limit is passed the call stays, its argument not searched, with
--- its look-ups until then and this fault
-abbrev pub within : {D : Type 0} → FaultKind → Option (List (List ℕ × Option D)) → Around → CallSite
-    → Attempt D → Attempt D
-within kind None around site a = a
-within {D} kind (Some finds) around site a =
-    let kept : Outcome D = stays kind around.outer site in
-    record { replaces = false; given = only (record kept { finds = finds }) }
+-- its look-ups until then
+abbrev pub within : {D : Type 0} → Option (Passed D) → Around → CallSite → Attempt D → Attempt D
+within None around site a = a
+within {D} (Some p) around site a =
+    let kept : Outcome D = stays RecursionLimit around.outer site in
+    record {
+      replaces = false;
+      given = only (record kept { finds = p.finds; bursts = p.bursts });
+    }
 
 module _ {D : Type 0} (dialect : Dialect) (world : World D) (local : Definition → D)
     (scope : List ℕ → Option D) where
@@ -128,21 +151,26 @@ module _ {D : Type 0} (dialect : Dialect) (world : World D) (local : Definition 
       noted_list (Some (noted_attempt (noted n))) (suc (size f)) around f
 
   -- an outermost call of this definition, whose result is searched with n levels left, makes too
-  -- much: then its look-ups until then
-  abbrev pub too_large : Limits → ℕ → D → Around → CallSite → Option (List (List ℕ × Option D))
+  -- much: then what comes before
+  abbrev pub too_large : Limits → ℕ → D → Around → CallSite → Option (Passed D)
   too_large limits n d around site =
       until_passed limits.calls limits.tokens
       (noted_attempt (noted n) (definition d) around site).given.outcome.finds
 
-  -- outermost calls within limits; this fault tells of one that makes too much
-  abbrev pub limited : FaultKind → Limits → ℕ → Expander D
-  limited kind limits n d around site =
-      within kind (too_large limits n d around site) around site
+  -- outermost calls within limits
+  abbrev pub limited : Limits → ℕ → Expander D
+  limited limits n d around site =
+      within (too_large limits n d around site) around site
       (attempt dialect world local scope (scoped dialect world local scope n) d around site)
 
-  -- the expansion of a list outside of all results, with n levels left, by limits
-  abbrev pub bounded : FaultKind → Limits → ℕ → Search D
-  bounded kind limits zero around f =
+  -- the expansion of a list in no result, with n levels left, by limits
+  abbrev pub bounded : Limits → ℕ → Search D
+  bounded limits zero around f =
       search_list dialect world local scope None (suc (size f)) around f
-  bounded kind limits (suc n) around f =
-      search_list dialect world local scope (Some (limited kind limits n)) (suc (size f)) around f
+  bounded limits (suc n) around f =
+      search_list dialect world local scope (Some (limited limits n)) (suc (size f)) around f
+
+  -- the same by limits or without
+  abbrev pub outermost : Option Limits → ℕ → Search D
+  outermost None = scoped dialect world local scope
+  outermost (Some limits) = bounded limits

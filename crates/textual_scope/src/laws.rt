@@ -13,13 +13,13 @@ ghost use Rattle.expander_model.specs.Pieces.{pieces};
 ghost use Rattle.cfg_options.specs.Conditions.{Options};
 ghost use Rattle.expander_model.specs.WholeItems.{definition_under, is_configured_out};
 ghost use Rattle.textual_scope.specs.Keywords.{AddsNoKeyword, HasNoKeyword, NestsNone};
-ghost use Rattle.textual_scope.specs.Limits.{Limits, bounded, noted, too_large, unnoted};
+ghost use Rattle.textual_scope.specs.Limits.{Limits, Passed, noted, outermost, too_large, unnoted};
 ghost use Rattle.textual_scope.specs.ScopeChanges.{around_with, scoped_with};
 ghost use Rattle.textual_scope.specs.TopLevelMeaning.{top_meaning};
 ghost use Rattle.expander_model.specs.declared.scope_rules.Standing.{Standing};
+ghost use Rattle.expander_model.specs.declared.scope_rules.Standing.TheVariants.{Top};
 ghost use Rattle.expander_model.specs.Scoping.{Around, Expander, Scoped, Search, and_next, only, scoped, search_list, search_pieces, without_locals};
 ghost use Rattle.expander_model.specs.declared.dialect.Dialect.{Dialect};
-ghost use Rattle.expander_model.specs.declared.fault.FaultKind.{FaultKind};
 ghost use Rattle.expander_model.specs.declared.scope_rules.ScopeRules.TheVariants.{Rust};
 
 /// Where no option is set a list is expanded as if no list had definitions, and defines nothing:
@@ -144,38 +144,49 @@ pub fn larger_limits_refuse_less()
 pub fn refusals_depend_on_lookups_so_far()
     ensures { (dialect : Dialect) (world : World Definition) (local : Definition → Definition)
         (scope others : List ℕ → Option Definition) (limits : Limits) (n : ℕ) (d : Definition)
-        (around : Around) (site : CallSite) (finds : List (List ℕ × Option Definition)) →
-        too_large dialect world local scope limits n d around site ≡ Some finds →
-        All (λ find. others find.0 ≡ find.1) finds →
-        too_large dialect world local others limits n d around site ≡ Some finds }
+        (around : Around) (site : CallSite) (p : Passed Definition) →
+        too_large dialect world local scope limits n d around site ≡ Some p →
+        All (λ find. others find.0 ≡ find.1) p.finds →
+        too_large dialect world local others limits n d around site ≡ Some p }
 {}
 
-/// An expansion by limits depends on what its look-ups find outside of all lists, those of a call
-/// that makes too much until then among them, and on nothing else there: `lookups`. Each of its
-/// look-ups is what the scope outside answers: `found`.
+/// An expansion by limits or without depends on what its look-ups find outside of all lists, those
+/// of a call that makes too much until then among them, and on nothing else there: `lookups`. Each
+/// of its look-ups is what the scope outside answers: `found`.
 pub fn expansions_by_limits_depend_on_outer_lookups_alone()
     ensures lookups { (dialect : Dialect) (world : World Definition)
         (local : Definition → Definition) (scope others : List ℕ → Option Definition)
-        (kind : FaultKind) (limits : Limits) (depth : ℕ) (around : Around) (f : Forest) →
+        (limits : Option Limits) (depth : ℕ) (around : Around) (f : Forest) →
         All (λ find. others find.0 ≡ find.1)
-        (bounded dialect world local scope kind limits depth around f).outcome.finds →
-        bounded dialect world local others kind limits depth around f
-        ≡ bounded dialect world local scope kind limits depth around f }
+        (outermost dialect world local scope limits depth around f).outcome.finds →
+        outermost dialect world local others limits depth around f
+        ≡ outermost dialect world local scope limits depth around f }
     ensures found { (dialect : Dialect) (world : World Definition)
         (local : Definition → Definition) (scope : List ℕ → Option Definition)
-        (kind : FaultKind) (limits : Limits) (depth : ℕ) (around : Around) (f : Forest) →
+        (limits : Option Limits) (depth : ℕ) (around : Around) (f : Forest) →
         All (λ find. scope find.0 ≡ find.1)
-        (bounded dialect world local scope kind limits depth around f).outcome.finds }
+        (outermost dialect world local scope limits depth around f).outcome.finds }
 {}
 
-/// By limits too a list at spans that `f` gives is expanded as at its own, and `f` and `h` applied.
+/// By limits or without, a list at spans that `f` gives is expanded as at its own, and `f` and `h`
+/// applied.
 pub fn expansions_by_limits_at_other_spans()
     ensures { (dialect : Dialect) (f : Span → Span) (h : Definition → Definition)
         (one two : World Definition) (local moved : Definition → Definition)
-        (scope changed : List ℕ → Option Definition) (kind : FaultKind) (limits : Limits)
+        (scope changed : List ℕ → Option Definition) (limits : Option Limits)
         (depth : ℕ) (around : Around) (g : Forest) →
         Changes f h one two → ScopeChange h scope changed →
         ((d : Definition) → moved (definition_with f d) ≡ h (local d)) →
-        bounded dialect two moved changed kind limits depth (around_with f around) (map_spans f g)
-        ≡ scoped_with f h (bounded dialect one local scope kind limits depth around g) }
+        outermost dialect two moved changed limits depth (around_with f around) (map_spans f g)
+        ≡ scoped_with f h (outermost dialect one local scope limits depth around g) }
+{}
+
+/// Where names find nothing outside of lists, no list has definitions and nothing is left out, limits
+/// change nothing, and a list is expanded as if no list had definitions.
+pub fn without_definitions_limits_change_nothing()
+    ensures { (dialect : Dialect) (world : World Definition) (local : Definition → Definition)
+        (limits : Option Limits) (depth : ℕ) (f : Forest) →
+        dialect.cfg ≡ None → (dialect.scope ≡ Rust → HasNoKeyword f) →
+        outermost dialect world local (λ key. None) limits depth (without_locals Top None) f
+        ≡ only (expansion world (λ key. None) depth None f) }
 {}
