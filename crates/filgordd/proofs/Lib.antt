@@ -3,3 +3,4 @@ mod CommandRows
 mod ConditionLemmas
 mod ShownLemmas
 mod SourceLemmas
+mod WarningLemmas
