@@ -13,18 +13,18 @@ use Rattle.filgordd.specs.Warnings.{body_of, first_misread, in_list, inner_misre
 -- ---- pieces one after another
 
 -- those of the next piece come before those of the pieces left
-pub next_spans : (of : Forest → List Span) (old piece new : Forest) (before after : List Span)
-    → cut old ≡ piece ∷ cut new → after ≡ before ++ of piece
-    → after ++ flat_map of (cut new) ≡ before ++ flat_map of (cut old)
-next_spans of old piece new before after e added =
-    ap (λ (xs : List Span). xs ++ flat_map of (cut new)) added
-    ∙ append_assoc before (of piece) (flat_map of (cut new))
-    ∙ ap (λ (ps : List Forest). before ++ flat_map of ps) (sym e)
+pub next_spans : (has : Forest → List Span) (old piece new : Forest) (before after : List Span)
+    → cut old ≡ piece ∷ cut new → after ≡ before ++ has piece
+    → after ++ flat_map has (cut new) ≡ before ++ flat_map has (cut old)
+next_spans has old piece new before after e added =
+    ap (λ (xs : List Span). xs ++ flat_map has (cut new)) added
+    ∙ append_assoc before (has piece) (flat_map has (cut new))
+    ∙ ap (λ (ps : List Forest). before ++ flat_map has ps) (sym e)
 
-pub no_spans : (of : Forest → List Span) (left : Forest) (spans : List Span) → left ≡ empty
-    → spans ++ flat_map of (cut left) ≡ spans
-no_spans of left spans e =
-    ap (λ (g : Forest). spans ++ flat_map of (cut g)) e ∙ append-nil spans
+pub no_spans : (has : Forest → List Span) (left : Forest) (spans : List Span) → left ≡ empty
+    → spans ++ flat_map has (cut left) ≡ spans
+no_spans has left spans e =
+    ap (λ (g : Forest). spans ++ flat_map has (cut g)) e ∙ append-nil spans
 
 -- ---- one piece
 

@@ -33,10 +33,10 @@ body_of piece = if is_some (definition_of piece) then None else braced false pie
 abbrev pub most_lists : ℕ
 most_lists = 64
 
--- what `of` gives of each piece of a list, if there is one
+-- what `has` gives of each piece of a list, if there is one
 abbrev pub in_list : (Forest → List Span) → Option Forest → List Span
-in_list of None = []
-in_list of (Some list) = flat_map of (cut list)
+in_list has None = []
+in_list has (Some list) = flat_map has (cut list)
 
 -- `options` are set
 module _ (options : Options) where
