@@ -32,13 +32,17 @@ named_more [] word start before after h s =
     let same : start ≡ before = cc h in
     ap (λ (b : Options). option_of word >>= λ p. Some (with_option p b)) same
     ∙ one_named (option_of word) before after s
-named_more (w ∷ words) word start before after h s = go (option_of w) h
+named_more (w ∷ words) word start before after h s =
+    go (option_of w) (λ p e. named_more words word (with_option p start) before after e s) h
   where
     go : (o : Option (List ℕ × Option (List ℕ)))
+        → ((p : List ℕ × Option (List ℕ))
+        → with_named (with_option p start) words ≡ Some before
+        → with_named (with_option p start) (words ++ word ∷ []) ≡ Some after)
         → (o >>= λ p. with_named (with_option p start) words) ≡ Some before
         → (o >>= λ p. with_named (with_option p start) (words ++ word ∷ [])) ≡ Some after
-    go None e = absurd (cc e)
-    go (Some p) e = named_more words word (with_option p start) before after e s
+    go None more e = absurd (cc e)
+    go (Some p) more e = more p e
 
 abbrev texts_of : List (Bor (List ℕ)) → List (List ℕ)
 texts_of words = map (λ w. w.now) words

@@ -1,5 +1,5 @@
 -- Which options words name, for conditional compilation. (Of this project.)
-use Rattle.std.specs.Prelude.{◌≡◌, ◌⊎◌, ℕ, Bool, false, ◌&&◌, ◌||◌, List, [], ◌∷◌, ◌++◌, Option, Some, None, IsSome}
+use Rattle.std.specs.Prelude.{◌≡◌, ◌⊎◌, ℕ, false, ◌&&◌, ◌||◌, List, [], ◌∷◌, ◌++◌, Option, Some, IsSome}
 use Rattle.small_grammar.specs.Text.{same_text, ◌>>=◌}
 use Rattle.cfg_options.specs.Conditions.{Options}
 use Rattle.cfg_options.specs.Options.{same_value}

@@ -27,7 +27,8 @@ pub(crate) fn cfg_of<'a>(
         match options.push(word) {
             Ok(()) => {}
             Err(CfgFault::Memory) => return Err(AllocError),
-            Err(_) => return Ok(Err(word)),
+            Err(CfgFault::NoOption) => return Ok(Err(word)),
+            Err(CfgFault::TooLong) => return Ok(Err(word)),
         }
     }
     Ok(Ok(Some(options)))
