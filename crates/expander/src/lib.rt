@@ -4,6 +4,7 @@
 pub mod laws;
 
 pub use bridge::{ReadFault, ReadFaultKind, TokenRanges};
+pub use cfg_options::{CfgFault, CfgOptions};
 pub use expander_model::dialect::Dialect;
 pub use expander_model::fault::{Fault, FaultKind};
 pub use expander_model::scope_rules::ScopeRules;

@@ -1,5 +1,7 @@
 mod CommandLemmas
 mod CommandRows
 mod ConditionLemmas
+mod ConditionRows
 mod ShownLemmas
 mod SourceLemmas
+mod WarningLemmas

@@ -23,10 +23,10 @@ abbrev pub IsGrammar : List ℕ → Edition → AnyGrammar → Type 0
 IsGrammar word edition Small = word ≡ codes "small"
 IsGrammar word edition (Rust e) = (word ≡ codes "rust") × (e ≡ edition)
 
--- a word names rules of scopes
-abbrev pub IsScope : List ℕ → ScopeRules → Type 0
-IsScope word rules.TopLevel = word ≡ codes "top"
-IsScope word rules.Rust = word ≡ codes "rust"
+-- the name of rules of scopes
+abbrev pub scope_name : ScopeRules → List ℕ
+scope_name rules.TopLevel = codes "top"
+scope_name rules.Rust = codes "rust"
 
 -- a word is a decimal number; a plus may come before it
 pub record IsDepth (word : List ℕ) (n : ℕ) : Type 0 where
@@ -38,6 +38,6 @@ pub record Chosen (grammar edition scope depth : List ℕ) (options : Options An
     : Type 0 where
   pub by_grammar : IsGrammar grammar options.edition options.grammar
   pub by_edition : edition ≡ edition_name options.edition
-  pub by_scope : IsScope scope options.dialect.scope
+  pub by_scope : scope ≡ scope_name options.dialect.scope
   pub dialect : options.dialect ≡ dialect_by options.dialect.scope
   pub by_depth : IsDepth depth options.depth

@@ -1,21 +1,35 @@
 -- Which options words name, for conditional compilation. (Of this project.)
-use Rattle.std.specs.Prelude.{ℕ, Bool, false, ◌&&◌, ◌||◌, List, [], ◌∷◌, Option, Some, None}
-use Rattle.small_grammar.specs.Text.{same_text}
+use Rattle.std.specs.Prelude.{◌≡◌, ◌⊎◌, ℕ, false, ◌&&◌, ◌||◌, List, [], ◌∷◌, ◌++◌, Option, Some, IsSome}
+use Rattle.small_grammar.specs.Text.{same_text, ◌>>=◌}
 use Rattle.cfg_options.specs.Conditions.{Options}
 use Rattle.cfg_options.specs.Options.{same_value}
-use Rattle.cfg_options.specs.Words.{option_of}
+use Rattle.cfg_options.specs.Words.{IsRefusal, option_of}
+use Rattle.cfg_options.specs.declared.fault.CfgFault.TheVariants.{TooLong, NoOption}
 
 -- no option is set
 abbrev pub no_options : Options
 no_options name value = false
 
--- an option, if there is one, is set too
-abbrev pub with_option : Option (List ℕ × Option (List ℕ)) → Options → Options
-with_option None before name value = before name value
-with_option (Some o) before name value =
+-- an option is set too
+abbrev pub with_option : List ℕ × Option (List ℕ) → Options → Options
+with_option o before name value =
     (same_text o.0 name && same_value o.1 value) || before name value
 
--- the options that these words name are set too
-abbrev pub are_named : Options → List (List ℕ) → Options
-are_named before [] = before
-are_named before (word ∷ words) = are_named (with_option (option_of word) before) words
+-- the options that these words name are set too, if each word names one
+abbrev pub with_named : Options → List (List ℕ) → Option Options
+with_named before [] = Some before
+with_named before (word ∷ words) = do
+  o ← option_of word
+  with_named (with_option o before) words
+
+-- a word sets no option: it names none, or it is too long
+abbrev pub SetsNone : List ℕ → Type 0
+SetsNone word = IsRefusal word NoOption ⊎ IsRefusal word TooLong
+
+-- the first of these words that sets no option
+pub record IsFirstWrong (words : List (List ℕ)) (word : List ℕ) : Type 0 where
+  pub front : List (List ℕ)
+  pub behind : List (List ℕ)
+  pub words_are : words ≡ front ++ word ∷ behind
+  pub before : IsSome (with_named no_options front)
+  pub wrong : SetsNone word

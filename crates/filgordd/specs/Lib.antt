@@ -6,3 +6,4 @@ pub mod Shown
 pub mod Sources
 pub mod Others
 pub mod Picking
+pub mod Warnings

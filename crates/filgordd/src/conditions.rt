@@ -1,21 +1,23 @@
 //! The options for conditional compilation that words name.
-ghost use Rattle.std.specs.Prelude.{◌≡◌, None, Some, IfOk, IfErr, IfNone, IfSome, map, []};
+ghost use Rattle.std.specs.Prelude.{◌≡◌, ◌≢◌, Some, IfOk, IfErr, IfNone, IfSome, map, []};
 ghost use Rattle.cfg_options.specs.Options.{options_of};
-ghost use Rattle.cfg_options.specs.Words.{option_of};
-ghost use Rattle.filgordd.specs.Conditions.{are_named, no_options};
+ghost use Rattle.filgordd.specs.Conditions.{IsFirstWrong, no_options, with_named};
 
 use cfg_options::{CfgFault, CfgOptions};
 use std::alloc::{AllocError, Global};
 
-/// The set of the options that these words name, or the first word that names none. Without a word
-/// there is no set. Out of memory is its only error.
+/// The set of the options that these words name, or the first word that sets none. Without a word
+/// there is no set, and only then. Out of memory is its only error.
 pub(crate) fn cfg_of<'a>(
     alloc: Global,
     words: &[&'a str],
 ) -> Result<Result<Option<CfgOptions>, &'a str>, AllocError>
     ensures none { IfOk result (λ given. IfOk given (λ set. IfNone set (words.now ≡ []))) }
+    ensures some { IfOk result (λ given. IfOk given (λ set. IfSome set (λ _. words.now ≢ []))) }
     ensures set { IfOk result (λ given. IfOk given (λ set. IfSome set (λ o.
-        options_of o ≡ are_named no_options (map (λ w. w.now) words.now)))) }
+        with_named no_options (map (λ w. w.now) words.now) ≡ Some (options_of o)))) }
+    ensures refused { IfOk result (λ given. IfErr given (λ word.
+        IsFirstWrong (map (λ w. w.now) words.now) word.now)) }
 {
     if words.is_empty() {
         return Ok(Ok(None));
@@ -25,7 +27,8 @@ pub(crate) fn cfg_of<'a>(
         match options.push(word) {
             Ok(()) => {}
             Err(CfgFault::Memory) => return Err(AllocError),
-            Err(_) => return Ok(Err(word)),
+            Err(CfgFault::NoOption) => return Ok(Err(word)),
+            Err(CfgFault::TooLong) => return Ok(Err(word)),
         }
     }
     Ok(Ok(Some(options)))

@@ -1,6 +1,8 @@
 //! What the program is asked for: a subcommand, its options and its text.
 ghost use Rattle.std.specs.Prelude.{◌≡◌, ◌≢◌, IfSome, MatchOption};
-ghost use Rattle.filgordd.specs.Choices.{Chosen, IsGrammar, IsScope, action_name};
+ghost use Rattle.any_grammar.specs.declared.chosen.AnyGrammar.{AnyGrammar};
+ghost use Rattle.expander_model.specs.declared.scope_rules.ScopeRules.{ScopeRules};
+ghost use Rattle.filgordd.specs.Choices.{Chosen, IsGrammar, action_name, scope_name};
 
 use any_grammar::AnyGrammar;
 use expander::{Dialect, Edition, Options, ScopeRules};
@@ -50,7 +52,8 @@ pub(crate) struct Job<'a> {
 
 // The grammar of a name, if it is one's; that of Rust is of this edition.
 fn grammar_of(name: &str, edition: Edition) -> Option<AnyGrammar>
-    ensures { IfSome result (IsGrammar name.now edition) }
+    ensures { MatchOption result ((g : AnyGrammar) → IsGrammar name.now edition g → ⊥)
+        (IsGrammar name.now edition) }
 {
     match name {
         "rust" => Some(AnyGrammar::Rust(edition)),
@@ -61,7 +64,8 @@ fn grammar_of(name: &str, edition: Edition) -> Option<AnyGrammar>
 
 // The rules of scopes of a name, if they are one's.
 fn scope_of(name: &str) -> Option<ScopeRules>
-    ensures { IfSome result (IsScope name.now) }
+    ensures { MatchOption result ((r : ScopeRules) → name.now ≢ scope_name r)
+        (λ r. name.now ≡ scope_name r) }
 {
     match name {
         "rust" => Some(ScopeRules::Rust),

@@ -9,12 +9,14 @@ mod job;
 mod layout;
 mod library;
 mod load;
+mod misread;
 mod other;
 mod picks;
 mod request;
 mod shown;
 mod source;
 mod view;
+mod warnings;
 mod work;
 
 use crate::files::misused;

@@ -8,6 +8,7 @@ use crate::layout::expand_in_lines;
 use crate::load::{Ended, Others, others_of};
 use crate::source::blank_front;
 use crate::view::view;
+use crate::warnings::warnings;
 use any_grammar::AnyGrammar;
 use cfg_options::CfgOptions;
 use expander::{Dialect, Options, Prelude, Status, Watched, run_after};
@@ -85,6 +86,22 @@ struct Task {
     layout: bool,
 }
 
+// Warns of conditions of a text that cannot be read, where options are set. `name` is its file's.
+fn warn(rt: &HostRuntime, options: &Options<AnyGrammar>, name: &str, text: &[u8]) {
+    let Some(cfg) = &options.dialect.cfg else {
+        return;
+    };
+    let Ok(text) = std::str::from_utf8(text) else {
+        return;
+    };
+    if text.len() > u32::MAX as usize {
+        return;
+    }
+    if let Ok(lines) = warnings(rt.alloc(), cfg, name, text) {
+        let _ = eprint!(rt; "{lines}");
+    }
+}
+
 // Does a task on a whole text, in which what is no code is blank. `name` is its file's.
 fn answer(
     rt: &HostRuntime,
@@ -98,6 +115,7 @@ fn answer(
         options,
         layout,
     } = task;
+    warn(rt, &options, name, text);
     match action {
         Action::View => show(rt, options, others, name, text),
         _ if layout => expand_in_lines(rt, options, others.prelude, text),

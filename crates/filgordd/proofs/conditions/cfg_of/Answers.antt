@@ -1,18 +1,22 @@
-use Rattle.std.proofs.Common.{◌≡◌, ◌+◌, ◌∙◌, List, ap, drop, map, sym}
-use Rattle.std.proofs.lemmas.List.{drop_more}
-use Rattle.std.specs.Borrow.{Bor}
-use Rattle.cfg_options.specs.Conditions.{Options}
+use Rattle.std.proofs.Common.{Some, ap, inl, inr, sym}
 use Rattle.cfg_options.specs.Options.{options_of}
-use Rattle.filgordd.specs.Conditions.{are_named}
-use Rattle.filgordd.proofs.ConditionLemmas.{set_is}
+use Rattle.filgordd.proofs.ConditionLemmas.{first_wrong, none_is, one_more}
 use Rattle.filgordd.proofs.conditions.cfg_of.Goals as goal
+
+pub loop-word-init : goal.loop-word-init
+loop-word-init c = sym (ap Some (none_is _ c.new-options.ensures))
 
 pub loop-word-preserved : goal.loop-word-preserved
 loop-word-preserved c =
-    let words = c.args.words.now in
-    let i = c.loop-word.word-index in
-    ap (λ (o : Options). are_named o (map (λ w. w.now) (drop (i + 1) words)))
-    (set_is _ (options_of c.loop-word.options) (options_of c.push.new.self) c.in-Ok.ensures.sets)
-    ∙ sym (ap (λ ws. are_named (options_of c.loop-word.options) (map (λ w. w.now) ws))
-    (drop_more words i _ c.loop-word-test.true))
-    ∙ c.loop-word.invariant
+    one_more c.args.words.now c.loop-word.word-index _ (options_of c.loop-word.options)
+    (options_of c.push.new.self) c.loop-word-test.true c.loop-word.invariant c.in-Ok.ensures.sets
+
+pub returns-in-Err-NoOption-clause-refused : goal.returns-in-Err-NoOption-clause-refused
+returns-in-Err-NoOption-clause-refused c =
+    first_wrong c.args.words.now c.loop-word.word-index _ (options_of c.loop-word.options)
+    c.loop-word-test.true c.loop-word.invariant (inl (rw c.in-Err-NoOption.field-0-is at c.in-Err-NoOption.ensures.fault))
+
+pub returns-in-Err-TooLong-clause-refused : goal.returns-in-Err-TooLong-clause-refused
+returns-in-Err-TooLong-clause-refused c =
+    first_wrong c.args.words.now c.loop-word.word-index _ (options_of c.loop-word.options)
+    c.loop-word-test.true c.loop-word.invariant (inr (rw c.in-Err-TooLong.field-0-is at c.in-Err-TooLong.ensures.fault))

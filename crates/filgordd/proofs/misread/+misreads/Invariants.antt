@@ -1,0 +1,24 @@
+use Rattle.std.proofs.Common.{◌≡◌, ◌+◌, ◌*◌, ◌++◌}
+use Rattle.std.specs.Prelude.{flat_map}
+use Rattle.tt_data.specs.Forest.{size}
+use Rattle.cfg_options.specs.Options.{options_of}
+use Rattle.expander_model.specs.Pieces.{cut}
+use Rattle.filgordd.specs.Warnings.{misreads_of}
+use Rattle.filgordd.proofs.misread.+misreads.Given as goal
+
+abbrev pub decreases-push_list : goal.decreases-push_list
+decreases-push_list l = 3 * l.levels + 2
+
+abbrev pub decreases-push_piece : goal.decreases-push_piece
+decreases-push_piece l = 3 * l.levels + 1
+
+abbrev pub decreases-push_body : goal.decreases-push_body
+decreases-push_body l = 3 * l.levels
+
+abbrev pub invariant-push_list-loop-piece : goal.invariant-push_list-loop-piece
+invariant-push_list-loop-piece l =
+    l.spans.items ++ flat_map (misreads_of (options_of l.options) l.levels) (cut l.rest)
+    ≡ l.initial.spans.items ++ flat_map (misreads_of (options_of l.options) l.levels) (cut l.list)
+
+abbrev pub decreases-push_list-loop-piece : goal.decreases-push_list-loop-piece
+decreases-push_list-loop-piece l = size l.rest
