@@ -99,6 +99,76 @@ static void scopes(void) {
     }
 }
 
+static uint32_t open_cfg(struct expander_session *s, const char *text, const char *const *named, size_t n) {
+    const struct expander_options options = {2024, EXPANDER_GRAMMAR_RUST, EXPANDER_SCOPE_RUST, 128};
+    struct expander_word words[4];
+    for (size_t i = 0; i < n; i++) words[i].bytes = named[i], words[i].len = strlen(named[i]);
+    return expander_open_cfg(s, text, strlen(text), &options, n ? words : NULL, n);
+}
+
+/* What a session prints. */
+static void prints(struct expander_session *s, const char *wanted) {
+    struct expander_counts counts = {0, 0, 0, 0};
+    char room[128] = "";
+    SAME(expander_expand(s), EXPANDER_OK);
+    SAME(expander_counts(s, &counts), EXPANDER_OK);
+    SAME(counts.printed, strlen(wanted));
+    SAME(expander_printed(s, room, sizeof room), EXPANDER_OK);
+    if (strcmp(room, wanted)) printf("%s is printed, not %s\n", room, wanted), failures++;
+}
+
+/* Of two definitions that whose option is set is used, and of an item what has to be set. */
+static void conditions(void) {
+    const char *text = "#[cfg(unix)] macro_rules! m { () => { 1 } } #[cfg(not(unix))] macro_rules! m { () => { 2 } } "
+                       "#[cfg(a = \"b\")] fn f() {} m!{}";
+    const char *item = "# [ cfg ( a = \"b\" ) ] fn f ( ) { }\n";
+    const char *words[] = {"unix", " a /* and */ = r\"b\" ", "unix", "test"};
+    char all[128];
+    struct expander_session s = EXPANDER_SESSION_INIT;
+    struct expander_source_told told = {0, {0, {0, 0}}};
+    struct expander_pick pick = {1, EXPANDER_ALL};
+    SAME(open_cfg(&s, text, NULL, 0), EXPANDER_OK);
+    prints(&s, "2\n");
+    SAME(open_cfg(&s, text, words, 1), EXPANDER_OK);
+    prints(&s, "1\n");
+    SAME(open_cfg(&s, text, words, 4), EXPANDER_OK);
+    snprintf(all, sizeof all, "%s1\n", item);
+    prints(&s, all);
+
+    /* The set stays, and holds for definitions of sources too. */
+    SAME(expander_edit(&s, 0, strlen(text), "p!{}", 4), EXPANDER_OK);
+    const char *source = "macro_rules! p { () => { 3 } } #[cfg(not(test))] macro_rules! p { () => { 4 } }";
+    SAME(expander_source(&s, 1, NULL, 0, 0, source, strlen(source), &told), EXPANDER_OK);
+    SAME(expander_prelude(&s, &pick, 1), EXPANDER_OK);
+    prints(&s, "3\n");
+
+    /* A word that names none changes nothing. */
+    const char *const wrong[] = {"", "a b", "a=b", "a=1", "a=", "_", "fn", "a=\"b\" c", "a(", "a=b\"c\"", "--cfg"};
+    for (size_t i = 0; i < sizeof wrong / sizeof *wrong; i++) {
+        const char *both[] = {"unix", wrong[i]};
+        SAME(open_cfg(&s, text, both, 2), EXPANDER_CFG);
+        SAME(open_cfg(&s, text, wrong + i, 1), EXPANDER_CFG);
+    }
+    const char *const bytes[] = {"unix", "\xff"};
+    SAME(open_cfg(&s, text, bytes, 2), EXPANDER_UTF8);
+    const struct expander_options options = {2024, EXPANDER_GRAMMAR_RUST, 2, 128};
+    const struct expander_word null[] = {{"unix", 4}, {NULL, 0}};
+    SAME(expander_open_cfg(&s, "a", 1, &options, null, 1), EXPANDER_SCOPE);
+    SAME(expander_open_cfg(&s, "a", 1, &options, null, 2), EXPANDER_NULL);
+    SAME(expander_open_cfg(&s, "a", 1, &options, NULL, 1), EXPANDER_NULL);
+    SAME(expander_open_cfg(&s, "a", 1, NULL, null, 1), EXPANDER_NULL);
+    SAME(expander_open_cfg(&s, NULL, 1, &options, null, 1), EXPANDER_NULL);
+    SAME(expander_open_cfg(NULL, "a", 1, &options, null, 1), EXPANDER_NULL);
+    prints(&s, "3\n");
+
+    /* Without a set each condition holds. */
+    const struct expander_options plain = {2024, EXPANDER_GRAMMAR_RUST, EXPANDER_SCOPE_RUST, 128};
+    SAME(expander_open_with(&s, text, strlen(text), &plain), EXPANDER_OK);
+    snprintf(all, sizeof all, "%s2\n", item);
+    prints(&s, all);
+    expander_close(&s);
+}
+
 static void codes(void) {
     struct expander_session s = EXPANDER_SESSION_INIT;
     struct expander_counts counts = {7, 7, 7, 7};
@@ -351,6 +421,7 @@ int main(int argc, char **argv) {
     the_row();
     grammars();
     scopes();
+    conditions();
     codes();
     sources();
     for (uint32_t scope = EXPANDER_SCOPE_TOP; scope <= EXPANDER_SCOPE_RUST; scope++)
