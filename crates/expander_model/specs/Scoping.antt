@@ -51,6 +51,15 @@ pub record Scoped (D : Type 0) : Type 0 where
 abbrev pub Search : Type 0 → Type 0
 Search D = Around → Forest → Scoped D
 
+-- what comes of a call of a valid definition: whether the call is replaced, and the result
+pub record Attempt (D : Type 0) : Type 0 where
+  pub replaces : Bool
+  pub given : Scoped D
+
+-- what expands such calls
+abbrev pub Expander : Type 0 → Type 0
+Expander D = D → Around → CallSite → Attempt D
+
 -- the definition that a piece of a list is, or none
 abbrev pub definition_in : ScopeRules → Forest → Option Definition
 definition_in TopLevel piece = None
@@ -140,6 +149,14 @@ in_brackets outer d a = record {
   defines = if is_visible d.kind then [] else a.defines;
 }
 
+-- a call of these tokens
+abbrev pub call_site : Path → Ident → Punct → Delimiter → Forest → CallSite
+call_site path name bang d argument = record {
+  at = name.span;
+  whole = whole_call path name bang d argument;
+  argument = argument;
+}
+
 -- `local` makes a definition of a list one of `world`; `scope` is what names find outside of lists
 module _ {D : Type 0} (dialect : Dialect) (world : World D) (local : Definition → D)
     (scope : List ℕ → Option D) where
@@ -158,25 +175,32 @@ module _ {D : Type 0} (dialect : Dialect) (world : World D) (local : Definition 
   fitted search around site (Some result) =
       search (record around { outer = Some (unwrap_or around.outer site.at) }) result
 
-  -- a call of a valid definition; `deeper` searches its result: none if no level is left
-  abbrev pub at_level : D → Option (Search D) → Around → CallSite → Scoped D
-  at_level d None around site = only (stays RecursionLimit around.outer site)
-  at_level d (Some search) around site =
+  -- a call of a valid definition, whose result is searched so
+  abbrev pub attempt : Search D → Expander D
+  attempt search d around site =
       let a : Scoped D = fitted search around site (world.fit d site.argument) in
-      record a { outcome = bursting (world.bursts d site.argument) a.outcome }
+      record {
+        replaces = is_some (world.fit d site.argument);
+        given = record a { outcome = bursting (world.bursts d site.argument) a.outcome };
+      }
+
+  -- a call of a valid definition, which `deeper` expands: none if no level is left
+  abbrev pub at_level : D → Option (Expander D) → Around → CallSite → Scoped D
+  at_level d None around site = only (stays RecursionLimit around.outer site)
+  at_level d (Some expand) around site = (expand d around site).given
 
   -- a call of a definition that is invalid, or is not
-  abbrev pub unbroken : D → Bool → Option (Search D) → Around → CallSite → Scoped D
+  abbrev pub unbroken : D → Bool → Option (Expander D) → Around → CallSite → Scoped D
   unbroken d true deeper around site = only (stays BrokenDefinition around.outer site)
   unbroken d false deeper around site = at_level d deeper around site
 
   -- a call whose name was looked up; `kept` is the call with only its argument searched
-  abbrev pub looked_up : Option D → Option (Search D) → Around → CallSite → Scoped D → Scoped D
+  abbrev pub looked_up : Option D → Option (Expander D) → Around → CallSite → Scoped D → Scoped D
   looked_up None deeper around site kept = kept
   looked_up (Some d) deeper around site kept = unbroken d (world.broken d) deeper around site
 
   -- a call that finds this definition in a list around it, or else looks its key up outside
-  abbrev pub at_key : Option Definition → List ℕ → Option (Search D) → Around → CallSite
+  abbrev pub at_key : Option Definition → List ℕ → Option (Expander D) → Around → CallSite
       → Scoped D → Scoped D
   at_key (Some d) key deeper around site kept = looked_up (Some (local d)) deeper around site kept
   at_key None key deeper around site kept =
@@ -184,7 +208,7 @@ module _ {D : Type 0} (dialect : Dialect) (world : World D) (local : Definition 
       record a { outcome = found key (scope key) a.outcome }
 
   -- a call by what comes before its name: only a name alone finds what the lists around define
-  abbrev pub at_call : Option (Search D) → Around → Path → Ident → CallSite → Scoped D → Scoped D
+  abbrev pub at_call : Option (Expander D) → Around → Path → Ident → CallSite → Scoped D → Scoped D
   at_call deeper around bare name site kept =
       at_key (nearest around.locals name.sym) name.sym deeper around site kept
   at_call deeper around (from_crate root first second) name site kept =
@@ -205,18 +229,18 @@ module _ {D : Type 0} (dialect : Dialect) (world : World D) (local : Definition 
       scope (key_of (from_crate root first second) name)
   found_at around (other first second) name = None
 
-  -- what it finds is valid, a level is left, and a rule fits: then the call is expanded
-  abbrev pub is_expanded : Option (Search D) → Option D → Forest → Bool
-  is_expanded (Some search) (Some d) argument =
-      not (world.broken d) && is_some (world.fit d argument)
-  is_expanded deeper found argument = false
+  -- what it finds is valid, a level is left, and a rule fits: then the call is replaced
+  abbrev pub is_replaced : Option (Expander D) → Option D → Around → CallSite → Bool
+  is_replaced (Some expand) (Some d) around site =
+      not (world.broken d) && (expand d around site).replaces
+  is_replaced deeper found around site = false
 
-  -- a `;` right behind such a call goes with it, if it is expanded
-  abbrev pub takes_end : Option (Search D) → Begun → Around → Path → Ident → Delimiter → Forest
+  -- a `;` right behind such a call goes with it, if it is replaced
+  abbrev pub takes_end : Option (Expander D) → Begun → Around → Path → Ident → Delimiter → CallSite
       → Bool
-  takes_end deeper s around path name d argument =
+  takes_end deeper s around path name d site =
       is_alone_in dialect s around.standing d
-      && is_expanded deeper (found_at around path name) argument
+      && is_replaced deeper (found_at around path name) around site
 
   -- a leaf as it is, unless it is a `;` that went with a call
   abbrev pub search_leaf : Begun → Around → Leaf → Scoped D
@@ -225,7 +249,7 @@ module _ {D : Type 0} (dialect : Dialect) (world : World D) (local : Definition 
 
   -- trees whose calls are marked, from left to right, before which so much came of their piece;
   -- `search` searches what a group holds
-  abbrev pub search_trees : Search D → Option (Search D) → Begun → Around → Marked → Scoped D
+  abbrev pub search_trees : Search D → Option (Expander D) → Begun → Around → Marked → Scoped D
   search_trees search deeper s around none = only (just around.outer [])
   search_trees search deeper s around (token l rest) =
       and_next (search_leaf s around l)
@@ -235,15 +259,14 @@ module _ {D : Type 0} (dialect : Dialect) (world : World D) (local : Definition 
       and_next (in_brackets around.outer d (search inner (unmarked a)))
       (λ here. search_trees search deeper (after_group s d.kind) here rest) around
   search_trees search deeper s around (call path name bang d a rest) =
-      let whole : Forest = whole_call path name bang d (unmarked a) in
-      let gone : Bool = takes_end deeper s around path name d (unmarked a) in
-      and_next (at_call deeper around path name
-      (record { at = name.span; whole = whole; argument = unmarked a })
-      (kept_call search around path name bang d (unmarked a)))
+      let site : CallSite = call_site path name bang d (unmarked a) in
+      let gone : Bool = takes_end deeper s around path name d site in
+      and_next
+      (at_call deeper around path name site (kept_call search around path name bang d (unmarked a)))
       (λ here. search_trees search deeper (after_call gone s d.kind) here rest) around
 
   -- a piece of a list, by what it is
-  abbrev pub search_piece : Search D → Option (Search D) → Around → Forest → PieceKind
+  abbrev pub search_piece : Search D → Option (Expander D) → Around → Forest → PieceKind
       → Scoped D
   search_piece search deeper around piece out_piece = only (just around.outer [])
   search_piece search deeper around piece (definition_piece d) = defined around d
@@ -251,14 +274,14 @@ module _ {D : Type 0} (dialect : Dialect) (world : World D) (local : Definition 
       search_trees search deeper Nothing around (marked piece)
 
   -- the pieces of a list, each in the scope of what those before it define
-  abbrev pub search_pieces : Search D → Option (Search D) → Around → List Forest → Scoped D
+  abbrev pub search_pieces : Search D → Option (Expander D) → Around → List Forest → Scoped D
   search_pieces search deeper around [] = only (just around.outer [])
   search_pieces search deeper around (p ∷ ps) =
       and_next (search_piece search deeper around p (kind_in dialect around.standing p))
       (λ here. search_pieces search deeper here ps) around
 
   -- a list whose groups nest less than n deep, as those of any list with fewer than n tokens do
-  abbrev pub search_list : Option (Search D) → ℕ → Search D
+  abbrev pub search_list : Option (Expander D) → ℕ → Search D
   search_list deeper zero around f = only (just around.outer [])
   search_list deeper (suc n) around f =
       search_pieces (search_list deeper n) deeper around (cut f)
@@ -266,7 +289,7 @@ module _ {D : Type 0} (dialect : Dialect) (world : World D) (local : Definition 
   -- the expansion of a list with n levels left
   abbrev pub scoped : ℕ → Search D
   scoped zero around f = search_list None (suc (size f)) around f
-  scoped (suc n) around f = search_list (Some (scoped n)) (suc (size f)) around f
+  scoped (suc n) around f = search_list (Some (attempt (scoped n))) (suc (size f)) around f
 
 -- the expansion of a tree with n levels left by the rules of this world, in the scope of what is
 -- around the tree; `local` makes a definition of a list one of the world

@@ -14,7 +14,7 @@ use Rattle.bridge.specs.Text.{is_visible}
 use Rattle.expander_model.specs.CallSteps.{bare_call, call_at, call_behind_colons, crate_call}
 use Rattle.expander_model.specs.Definitions.{Definition, definition_of}
 use Rattle.expander_model.specs.Expansion.{World, Outcome, CallSite, PlacedStep, before_group, bursting, just, followed_by, stays}
-use Rattle.expander_model.specs.Held.{Numbered, unnumbered}
+use Rattle.expander_model.specs.Held.{Numbered}
 use Rattle.expander_model.specs.PieceStates.{after_leaf, after_group, after_name, is_dropped}
 use Rattle.expander_model.specs.Scoping.{Around as Surroundings, Scoped, out_piece, definition_piece, kind_of, kind_in, and_next, defined, definition_in, in_brackets, in_group, only}
 use Rattle.cfg_options.specs.declared.options.CfgOptions.{CfgOptions}
@@ -36,7 +36,8 @@ use Rattle.expander_model.specs.declared.scope_rules.ScopeRules.TheVariants.{Top
 use Rattle.expander_model.specs.declared.scope_rules.Standing.{Standing}
 use Rattle.expander_model.specs.declared.scope_rules.Standing.TheVariants.{Argument}
 use Rattle.expander_model.specs.declared.tree_walk.Around.{Around}
-use Rattle.expander_scope.specs.Expanding.{Adds, answer, deeper_at, makes_too_many, searched}
+use Rattle.textual_scope.specs.Limits.{Noted, Notes, note_of, noted_world}
+use Rattle.expander_scope.specs.Expanding.{Adds, answer, deeper_at, makes_too_many, noted_local, noted_scope, searched}
 use Rattle.expander_scope.specs.ListsLeft.{IsAhead, IsOutAhead, Left, Open, Place, all_left, groups_left, in_list, let_out, list_left, then_left}
 use Rattle.expander_scope.specs.Leaving.{Leaves}
 use Rattle.expander_scope.specs.LocalTables.{AreReadIn, locals_of}
@@ -46,7 +47,7 @@ use Rattle.expander_scope.specs.declared.list_walk.Level.{Level}
 use Rattle.expander_scope.specs.declared.list_walk.ListWalk.{ListWalk}
 use Rattle.expander_scope.specs.declared.locals.Locals.{Locals}
 use Rattle.expander_scope.proofs.CallLemmas.{no_call}
-use Rattle.expander_scope.proofs.CallResultLemmas.{colons_left, adds_just, adds_looks, adds_more, adds_stays, answer_bursts, behind_call, comes_left, deeper, looks, result_bursts, site_of, stands_alone, stays_left, unknown_left}
+use Rattle.expander_scope.proofs.CallResultLemmas.{among_notes, no_lookups, colons_left, adds_just, adds_looks, adds_more, adds_notes, adds_stays, answer_bursts, behind_call, comes_left, deeper, looks, result_bursts, site_of, stands_alone, stays_left, unknown_left}
 use Rattle.expander_scope.proofs.ListLemmas.{entered_in, here_in, left_at_beginning, left_at_end, left_group, left_leaf, opened, passed_in, then_assoc}
 use Rattle.expander_scope.proofs.OutcomeLemmas.{or_later}
 use Rattle.expander_scope.proofs.SinkLemmas.{takes_none}
@@ -87,7 +88,7 @@ module _ (dialect : Dialect) (world : World Numbered) (scope : List ℕ → Opti
   behind_leaf p l rest = record p { here = rest; begun = after_leaf p.begun l }
 
   -- what it prints
-  abbrev leaf_of : Place → Leaf → Outcome Numbered
+  abbrev leaf_of : Place → Leaf → Outcome (Noted Numbered)
   leaf_of p l = just outer (if is_dropped p.begun l then [] else at_leaf l ∷ [])
 
   leaf_left : (p : Place) (l : Leaf) (rest : Forest) → IsPlainAhead dialect p → IsNoCall p → p.here ≡ leaf l rest
@@ -115,7 +116,7 @@ module _ (dialect : Dialect) (world : World Numbered) (scope : List ℕ → Opti
   group_left p d inner rest plain is =
       let at : Surroundings = here_in dialect world scope depth outer p.standing p.locals in
       let inside : Standing = in_group p.begun d.kind p.standing in
-      let a : Scoped Numbered = in_brackets outer d (searched dialect world scope depth (here_in dialect world scope depth outer inside p.locals) inner) in
+      let a : Scoped (Noted Numbered) = in_brackets outer d (searched dialect world scope depth (here_in dialect world scope depth outer inside p.locals) inner) in
       passed_in dialect world scope depth outer p.begun (after_group p.begun d.kind) p.standing p.locals p.here rest a (groups_left dialect world scope depth outer p.groups)
       (ap (list_left dialect world scope depth p.begun at) is
       ∙ left_group dialect world scope depth p.begun at d inner rest ((λ v. subst (λ f. IsOutAhead dialect.cfg p.standing f None) is (plain.0 v)), (λ u v. subst (λ f. IsAhead f None) is (plain.1 u v))))
@@ -239,7 +240,7 @@ module _ (dialect : Dialect) (world : World Numbered) (scope : List ℕ → Opti
         surroundings : Surroundings
         surroundings = here_in dialect world scope depth outer p.standing p.locals
 
-        nothing_of : Scoped Numbered
+        nothing_of : Scoped (Noted Numbered)
         nothing_of = only (just outer [])
 
         kind_is : kind_in dialect p.standing out.0 ≡ out_piece
@@ -248,7 +249,7 @@ module _ (dialect : Dialect) (world : World Numbered) (scope : List ℕ → Opti
         list_is : (s : Begun) → s ≡ Nothing
             → list_left dialect world scope depth s surroundings p.here ≡ and_next nothing_of (λ here. list_left dialect world scope depth s here rest) surroundings
         list_is Nothing v =
-            at_out dialect world unnumbered scope (searched dialect world scope depth) (deeper_at dialect world scope depth) surroundings p.here out.0 rest out.1.0 kind_is
+            at_out dialect (noted_world world) noted_local (noted_scope scope) (searched dialect world scope depth) (deeper_at dialect world scope depth) surroundings p.here out.0 rest out.1.0 kind_is
             ∙ sym (nothing_and outer (λ here. list_left dialect world scope depth Nothing here rest) surroundings)
         list_is s v = absurd (cc v)
 
@@ -261,7 +262,7 @@ module _ (dialect : Dialect) (world : World Numbered) (scope : List ℕ → Opti
         → dialect.scope ≡ Rust → p.begun ≡ Nothing → IsAhead p.here (Some (piece, rest)) → definition_of piece ≡ Some d
         → after.trees.here ≡ rest → groups_of after.trees ≡ groups_of before.trees → after.begun ≡ before.begun → after.standing ≡ before.standing
         → after.levels ≡ before.levels → locals_of new.locals ≡ d ∷ locals_of old.locals → (AreReadIn edition old.locals → AreReadIn edition new.locals)
-        → Adds Has old.out new.out (defined dialect world unnumbered scope (here_in dialect world scope depth outer p.standing p.locals) d).outcome
+        → Adds Has old.out new.out (defined dialect (noted_world world) noted_local (noted_scope scope) (here_in dialect world scope depth outer p.standing p.locals) d).outcome
         → Goes dialect world scope depth outer edition Has (whole_left p) old new before after
     goes_on_behind d piece rest inside rust nothing ahead is here groups begun standing levels locals read adds = record {
       next = record p { here = rest; locals = d ∷ p.locals };
@@ -274,7 +275,7 @@ module _ (dialect : Dialect) (world : World Numbered) (scope : List ℕ → Opti
         levels = ap (λ (v : _). reverse v.items) levels ∙ at.levels;
         nested = nested_more (d ∷ []) p.locals p.groups at.nested;
       };
-      outcome = (defined dialect world unnumbered scope (here_in dialect world scope depth outer p.standing p.locals) d).outcome;
+      outcome = (defined dialect (noted_world world) noted_local (noted_scope scope) (here_in dialect world scope depth outer p.standing p.locals) d).outcome;
       is = defined_left;
       adds = adds;
       read = read;
@@ -284,8 +285,8 @@ module _ (dialect : Dialect) (world : World Numbered) (scope : List ℕ → Opti
         surroundings : Surroundings
         surroundings = here_in dialect world scope depth outer p.standing p.locals
 
-        a : Scoped Numbered
-        a = defined dialect world unnumbered scope surroundings d
+        a : Scoped (Noted Numbered)
+        a = defined dialect (noted_world world) noted_local (noted_scope scope) surroundings d
 
         found_in : (r : ScopeRules) → r ≡ Rust → definition_in r piece ≡ Some d
         found_in Rust u = is
@@ -297,9 +298,9 @@ module _ (dialect : Dialect) (world : World Numbered) (scope : List ℕ → Opti
             ∙ ap kind_of (found_in dialect.scope rust)
 
         list_is : (s : Begun) → s ≡ Nothing
-            → list_left dialect world scope depth s surroundings p.here ≡ and_next (defined dialect world unnumbered scope surroundings d) (λ here. list_left dialect world scope depth s here rest) surroundings
+            → list_left dialect world scope depth s surroundings p.here ≡ and_next (defined dialect (noted_world world) noted_local (noted_scope scope) surroundings d) (λ here. list_left dialect world scope depth s here rest) surroundings
         list_is Nothing v =
-            at_definition dialect world unnumbered scope (searched dialect world scope depth) (deeper_at dialect world scope depth) surroundings p.here piece rest d ahead.0 kind_is
+            at_definition dialect (noted_world world) noted_local (noted_scope scope) (searched dialect world scope depth) (deeper_at dialect world scope depth) surroundings p.here piece rest d ahead.0 kind_is
         list_is s v = absurd (cc v)
 
         defined_left : whole_left p ≡ then_left a.outcome (whole_left (record p { here = rest; locals = d ∷ p.locals }))
@@ -396,8 +397,8 @@ module _ (dialect : Dialect) (world : World Numbered) (scope : List ℕ → Opti
 
   module _ (edition : Edition) {S : Type 0} (Has : S → List PlacedStep → Type 0) where
     -- names were looked up before a turn
-    pub goes_looked : (xs : List (List ℕ × Option Numbered)) (from now : Left) (old mid new : Search S) (before after : ListWalk) → from ≡ then_left (looks xs) now
-        → ((o : Outcome Numbered) → Adds Has mid.out new.out o → Adds Has old.out new.out (followed_by (looks xs) o)) → mid.locals ≡ old.locals
+    pub goes_looked : (xs : Notes Numbered) (from now : Left) (old mid new : Search S) (before after : ListWalk) → from ≡ then_left (looks xs) now
+        → ((o : Outcome (Noted Numbered)) → Adds Has mid.out new.out o → Adds Has old.out new.out (followed_by (looks xs) o)) → mid.locals ≡ old.locals
         → Goes dialect world scope depth outer edition Has now mid new before after → Goes dialect world scope depth outer edition Has from old new before after
     goes_looked xs from now old mid new before after is more locals g = record {
       next = g.next;
@@ -417,15 +418,15 @@ module _ (dialect : Dialect) (world : World Numbered) (scope : List ℕ → Opti
       abbrev pub call_is : IsCall p.here c true
       call_is = call_is_call p.here c (ap call_at (sym at.here) ∙ e)
 
-      abbrev pub xs : List (List ℕ × Option Numbered)
-      xs = lookups_of scope p.locals p.here c
+      abbrev pub xs : Notes Numbered
+      xs = among_notes (lookups_of scope p.locals p.here c)
 
       resolved_is : (x : Option Numbered) → x ≡ resolved scope (locals_of old.locals) w.trees.here c → resolved scope p.locals p.here c ≡ x
       resolved_is x is = (λ i. resolved scope (sym at.locals i) (sym at.here i) c) ∙ sym is
 
-      looked_first : (new : Search S) (o : Outcome Numbered) → Adds Has mid.out new.out o → Adds Has old.out new.out (followed_by (looks xs) o)
+      looked_first : (new : Search S) (o : Outcome (Noted Numbered)) → Adds Has mid.out new.out o → Adds Has old.out new.out (followed_by (looks xs) o)
       looked_first new o adds =
-          adds_looks Has old.out mid.out new.out xs o same_output same_faults
+          adds_looks Has old.out mid.out new.out (lookups_of scope p.locals p.here c) o same_output same_faults
           (finds ∙ (λ i. map find_of old.out.finds.items ++ lookups_of scope (at.locals i) (at.here i) c)) adds
 
       pub at_mid : IsAt w mid.locals p
@@ -491,22 +492,23 @@ module _ (dialect : Dialect) (world : World Numbered) (scope : List ℕ → Opti
           → new.locals ≡ mid.locals → IsBehind false after → Goes dialect world scope depth outer edition Has (whole_left p) old new w after
       goes_stays told new after d found kind says sink faults looked adds locals b =
           let is = stays_left dialect world scope depth outer p plain c call_is d (resolved_is (Some d) found) kind says in
-          let site : CallSite = site_of dialect world scope depth p.here c true call_is in record {
+          let site : CallSite = site_of dialect world scope depth p.here c true call_is in
+          let o : Outcome (Noted Numbered) = bursting is.0 (stays kind outer site) in record {
             next = behind_it false [];
             at = stands_behind false new after [] b (ap locals_of locals);
-            outcome = followed_by (looks xs) (bursting is.0 (stays kind outer site));
-            is = is.1;
-            adds = looked_first new (bursting is.0 (stays kind outer site)) (bursts_too (stays kind outer site) is.0 mid new
-                (adds_stays Has mid.out told.out new.out kind outer site sink faults (ap (λ (v : _). map find_of v.items) looked) (adds site.whole (at.here ∙ call_is.whole))));
+            outcome = followed_by (looks xs) (followed_by (looks is.1) o);
+            is = is.2.1;
+            adds = looked_first new (followed_by (looks is.1) o) (adds_notes Has mid.out new.out is.1 o is.2.0 (bursts_too (stays kind outer site) is.0 mid new
+                (adds_stays Has mid.out told.out new.out kind outer site sink faults (ap (λ (v : _). map find_of v.items) looked) (adds site.whole (at.here ∙ call_is.whole)))));
             read = subst (AreReadIn edition) (sym (locals ∙ same_locals));
             less = omega (arith, ap size b.here, ap steps_in b.groups, smaller);
           }
         where
-          bursts_too : (o : Outcome Numbered) (t : Bool) (one two : Search S) → Adds Has one.out two.out o → Adds Has one.out two.out (bursting t o)
+          bursts_too : (o : Outcome (Noted Numbered)) (t : Bool) (one two : Search S) → Adds Has one.out two.out o → Adds Has one.out two.out (bursting t o)
           bursts_too o t one two a = record { steps = a.steps; faults = a.faults; finds = a.finds }
 
       -- its result is searched, in the surroundings of the call
-      abbrev pub result_of : Forest → Scoped Numbered
+      abbrev pub result_of : Forest → Scoped (Noted Numbered)
       result_of g = searched dialect world scope (depth - 1) (record { standing = w.standing; outer = Some (unwrap_or outer c.name.span); locals = locals_of mid.locals }) g
 
       result_is : (d : Numbered) (g : Forest) → result_of g ≡ deeper dialect world scope d (here_in dialect world scope depth outer p.standing p.locals) (site_of dialect world scope depth p.here c true call_is) depth g
@@ -519,14 +521,16 @@ module _ (dialect : Dialect) (world : World Numbered) (scope : List ℕ → Opti
           → locals_of new.locals ≡ (result_of g).defines ++ locals_of mid.locals → AreReadIn edition new.locals → IsBehind alone after
           → Goes dialect world scope depth outer edition Has (whole_left p) old new w after
       goes_comes new after d found g says adds locals read b =
-          let a : Scoped Numbered = result_of g in
+          let a : Scoped (Noted Numbered) = result_of g in
           let t : Bool = world.bursts d c.argument in
+          let notes : Notes Numbered = note_of t (Some g) in
           let is = comes_left dialect world scope depth outer p plain c call_is d (resolved_is (Some d) found) g says in record {
             next = behind_it alone a.defines;
             at = stands_behind alone new after a.defines b locals;
-            outcome = followed_by (looks xs) (bursting t a.outcome);
-            is = is ∙ (λ i. then_left (followed_by (looks xs) (bursting t (sym (result_is d g) i).outcome)) (whole_left (behind_it (sym alone_is i) (sym (result_is d g) i).defines)));
-            adds = looked_first new (bursting t a.outcome) (record { steps = adds.steps; faults = adds.faults; finds = adds.finds });
+            outcome = followed_by (looks xs) (followed_by (looks notes) (bursting t a.outcome));
+            is = is ∙ (λ i. then_left (followed_by (looks xs) (followed_by (looks notes) (bursting t (sym (result_is d g) i).outcome))) (whole_left (behind_it (sym alone_is i) (sym (result_is d g) i).defines)));
+            adds = looked_first new (followed_by (looks notes) (bursting t a.outcome)) (adds_notes Has mid.out new.out notes (bursting t a.outcome) (no_lookups t (Some g))
+                (record { steps = adds.steps; faults = adds.faults; finds = adds.finds }));
             read = λ old_read. read;
             less = omega (arith, ap size b.here, ap steps_in b.groups, smaller);
           }
@@ -539,7 +543,7 @@ module _ (dialect : Dialect) (world : World Numbered) (scope : List ℕ → Opti
           → (result_of g).outcome.bursts ≡ true → (whole_left p).0.bursts ≡ true
       result_too_many d found g says much =
           result_bursts dialect world scope depth outer p plain c call_is d (resolved_is (Some d) found) g says
-          (ap (λ (x : Scoped Numbered). x.outcome.bursts) (sym (result_is d g)) ∙ much)
+          (ap (λ (x : Scoped (Noted Numbered)). x.outcome.bursts) (sym (result_is d g)) ∙ much)
 
     -- ---- what would be a call but for the `::` before it
 
@@ -574,14 +578,14 @@ module _ (dialect : Dialect) (world : World Numbered) (scope : List ℕ → Opti
     pub record Going (whole : Left) (first now : Search S) (w : ListWalk) : Type 0 where
       pub place : Place
       pub at : IsAt w now.locals place
-      pub done : Outcome Numbered
+      pub done : Outcome (Noted Numbered)
       pub is : whole ≡ then_left done (whole_left place)
       pub adds : Adds Has first.out now.out done
       pub read : AreReadIn edition now.locals
 
     pub going_first : (standing : Standing) (trees : Forest) (search : Search S) (w : ListWalk) → w.trees.here ≡ trees → groups_of w.trees ≡ []
         → w.begun ≡ Nothing → w.standing ≡ standing → reverse w.levels.items ≡ [] → AreReadIn edition search.locals
-        → (let a : Scoped Numbered = searched dialect world scope depth (here_in dialect world scope depth outer standing (locals_of search.locals)) trees in
+        → (let a : Scoped (Noted Numbered) = searched dialect world scope depth (here_in dialect world scope depth outer standing (locals_of search.locals)) trees in
         Going (a.outcome, a.defines ++ locals_of search.locals) search search w)
     going_first standing trees search w here groups begun standing_is levels read = record {
       place = record { here = trees; begun = Nothing; standing = standing; locals = locals_of search.locals; groups = [] };
@@ -604,12 +608,12 @@ module _ (dialect : Dialect) (world : World Numbered) (scope : List ℕ → Opti
     }
 
     -- nothing is left
-    pub going_done : (a : Scoped Numbered) (locals : List Definition) (first now : Search S) (w : ListWalk) (g : Going (a.outcome, a.defines ++ locals) first now w)
+    pub going_done : (a : Scoped (Noted Numbered)) (locals : List Definition) (first now : Search S) (w : ListWalk) (g : Going (a.outcome, a.defines ++ locals) first now w)
         → g.place.here ≡ empty → g.place.groups ≡ [] → Adds Has first.out now.out a.outcome × (locals_of now.locals ≡ a.defines ++ locals)
     going_done a locals first now w g at_end groups =
         let all : (a.outcome, a.defines ++ locals) ≡ (g.done, g.place.locals) =
-        g.is ∙ ap (then_left g.done) (nothing_left g.place at_end groups) ∙ ap (λ (o : Outcome Numbered). (o, g.place.locals)) (followed_by_nothing g.done outer) in
-        (subst (λ (o : Outcome Numbered). Adds Has first.out now.out o) (sym (ap (λ (l : Left). l.0) all)) g.adds, g.at.locals ∙ sym (ap (λ (l : Left). l.1) all))
+        g.is ∙ ap (then_left g.done) (nothing_left g.place at_end groups) ∙ ap (λ (o : Outcome (Noted Numbered)). (o, g.place.locals)) (followed_by_nothing g.done outer) in
+        (subst (λ (o : Outcome (Noted Numbered)). Adds Has first.out now.out o) (sym (ap (λ (l : Left). l.0) all)) g.adds, g.at.locals ∙ sym (ap (λ (l : Left). l.1) all))
 
     -- what makes too many tokens in what is left does so in the whole
     pub going_bursts : (whole : Left) (first now : Search S) (w : ListWalk) (g : Going whole first now w) → (whole_left g.place).0.bursts ≡ true → whole.0.bursts ≡ true

@@ -11,18 +11,19 @@ use Rattle.tt_data.specs.declared.span.Span.{Span}
 use Rattle.bridge.specs.Text.{is_visible}
 use Rattle.expander_model.specs.Calls.{Path, bare, from_crate, other, mark_leaf, marked, token}
 use Rattle.expander_model.specs.Definitions.{Definition}
-use Rattle.expander_model.specs.Expansion.{World, Outcome, just, followed_by, grouped, whole_call}
+use Rattle.expander_model.specs.Expansion.{World, Outcome, just, followed_by, grouped}
 use Rattle.expander_model.specs.Held.{Numbered, unnumbered}
 use Rattle.expander_model.specs.PieceStates.{after_call, after_leaf, after_group}
 use Rattle.expander_model.specs.Pieces.{cut}
-use Rattle.expander_model.specs.Scoping.{Around, Scoped, Search, out_piece, plain_piece, kind_of, kind_in, definition_in, in_group, only, and_next, in_brackets, at_call, kept_call, search_leaf, search_list, scoped, takes_end}
+use Rattle.expander_model.specs.Scoping.{call_site, Expander, Around, Scoped, Search, out_piece, plain_piece, kind_of, kind_in, definition_in, in_group, only, and_next, in_brackets, at_call, kept_call, search_leaf, search_list, takes_end}
 use Rattle.expander_model.specs.declared.begun.Begun.{Begun}
 use Rattle.expander_model.specs.declared.begun.Begun.TheVariants.{Nothing, Pound, PoundBang, Attributes, AttributesPound, Visible, Qualified, Item, Extern, Abi, Gone, Other}
 use Rattle.expander_model.specs.declared.dialect.Dialect.{Dialect}
 use Rattle.expander_model.specs.declared.scope_rules.ScopeRules.{ScopeRules}
 use Rattle.expander_model.specs.declared.scope_rules.ScopeRules.TheVariants.{TopLevel, Rust}
 use Rattle.expander_model.specs.declared.scope_rules.Standing.{Standing}
-use Rattle.expander_scope.specs.Expanding.{deeper_at, searched}
+use Rattle.textual_scope.specs.Limits.{Noted, noted, noted_world}
+use Rattle.expander_scope.specs.Expanding.{deeper_at, noted_local, noted_scope, searched}
 use Rattle.expander_scope.specs.ListsLeft.{IsAhead, IsOutAhead, Left, Open, list_left, in_list, groups_left, all_left, then_left, let_out}
 use Rattle.textual_scope.specs.FromLeft.{AreOfCall, is_begun, pieces_left, trees_left}
 use Rattle.textual_scope.proofs.LeftLemmas.{call_before, at_piece, at_token, at_group, at_a_call, left_nothing}
@@ -33,31 +34,31 @@ use Rattle.expander_scope.proofs.OutcomeLemmas.{or_false, outcome_eq}
 -- ---- one list
 
 module _ (dialect : Dialect) (world : World Numbered) (scope : List ℕ → Option Numbered) (depth : ℕ) where
-  abbrev S : Search Numbered
+  abbrev S : Search (Noted Numbered)
   S = searched dialect world scope depth
 
-  abbrev deep : Option (Search Numbered)
+  abbrev deep : Option (Expander (Noted Numbered))
   deep = deeper_at dialect world scope depth
 
-  abbrev left : Begun → Around → Forest → Scoped Numbered
+  abbrev left : Begun → Around → Forest → Scoped (Noted Numbered)
   left s around f = list_left dialect world scope depth s around f
 
   -- with n levels left a result is searched so
-  pub scoped_is : (n : ℕ) (around : Around) (f : Forest) → scoped dialect world unnumbered scope n around f ≡ searched dialect world scope n around f
+  pub scoped_is : (n : ℕ) (around : Around) (f : Forest) → noted dialect world unnumbered scope n around f ≡ searched dialect world scope n around f
   scoped_is zero around f = refl
   scoped_is (suc n) around f = refl
 
   -- a list is searched as what is left of it at its beginning
   pub searched_is : (around : Around) (f : Forest) → S around f ≡ left Nothing around f
   searched_is around f =
-      same_parts dialect world unnumbered scope deep (size f) S (search_list dialect world unnumbered scope deep (size f))
-      (λ here g less. enough dialect world unnumbered scope deep (size f) (suc (size g)) here g less (omega arith)) around (cut f)
+      same_parts dialect (noted_world world) noted_local (noted_scope scope) deep (size f) S (search_list dialect (noted_world world) noted_local (noted_scope scope) deep (size f))
+      (λ here g less. enough dialect (noted_world world) noted_local (noted_scope scope) deep (size f) (suc (size g)) here g less (omega arith)) around (cut f)
       (within_parts f)
 
   -- nothing is left
   pub left_empty : (s : Begun) (around : Around) → left s around empty ≡ only (just around.outer [])
-  left_empty s around = elim (is_begun s) as (λ b. (if b then trees_left dialect world unnumbered scope S deep s around empty else pieces_left dialect world unnumbered scope S deep around empty)
-      ≡ only (just around.outer [])) [ true ↦ left_nothing dialect world unnumbered scope S deep s around | false ↦ refl ]
+  left_empty s around = elim (is_begun s) as (λ b. (if b then trees_left dialect (noted_world world) noted_local (noted_scope scope) S deep s around empty else pieces_left dialect (noted_world world) noted_local (noted_scope scope) S deep around empty)
+      ≡ only (just around.outer [])) [ true ↦ left_nothing dialect (noted_world world) noted_local (noted_scope scope) S deep s around | false ↦ refl ]
 
   -- no piece that is left out or a definition begins here
   abbrev pub IsPlain : Standing → Begun → Forest → Type 0
@@ -87,39 +88,39 @@ module _ (dialect : Dialect) (world : World Numbered) (scope : List ℕ → Opti
   not_begun Gone e = absurd (cc e)
   not_begun Other e = absurd (cc e)
 
-  trees_of_piece : (s : Begun) (around : Around) (f : Forest) → f ≢ empty → IsPlain around.standing s f → left s around f ≡ trees_left dialect world unnumbered scope S deep s around f
+  trees_of_piece : (s : Begun) (around : Around) (f : Forest) → f ≢ empty → IsPlain around.standing s f → left s around f ≡ trees_left dialect (noted_world world) noted_local (noted_scope scope) S deep s around f
   trees_of_piece s around f some plain = go (is_begun s) refl
     where
-      go : (b : Bool) → is_begun s ≡ b → (if b then trees_left dialect world unnumbered scope S deep s around f else pieces_left dialect world unnumbered scope S deep around f)
-          ≡ trees_left dialect world unnumbered scope S deep s around f
+      go : (b : Bool) → is_begun s ≡ b → (if b then trees_left dialect (noted_world world) noted_local (noted_scope scope) S deep s around f else pieces_left dialect (noted_world world) noted_local (noted_scope scope) S deep around f)
+          ≡ trees_left dialect (noted_world world) noted_local (noted_scope scope) S deep s around f
       go true e = refl
       go false e =
-          at_piece dialect world unnumbered scope S deep around f some (plain_in around.standing f (plain.0 (not_begun s e)) (λ rust. plain.1 rust (not_begun s e)))
-          ∙ ap (λ t. trees_left dialect world unnumbered scope S deep t around f) (sym (not_begun s e))
+          at_piece dialect (noted_world world) noted_local (noted_scope scope) S deep around f some (plain_in around.standing f (plain.0 (not_begun s e)) (λ rust. plain.1 rust (not_begun s e)))
+          ∙ ap (λ t. trees_left dialect (noted_world world) noted_local (noted_scope scope) S deep t around f) (sym (not_begun s e))
 
   -- a leaf that begins no call
   pub left_leaf : (s : Begun) (around : Around) (l : Leaf) (rest : Forest) → IsPlain around.standing s (leaf l rest) → mark_leaf l (marked rest) ≡ token l (marked rest)
-      → left s around (leaf l rest) ≡ and_next (search_leaf dialect world unnumbered scope s around l) (λ here. left (after_leaf s l) here rest) around
+      → left s around (leaf l rest) ≡ and_next (search_leaf dialect (noted_world world) noted_local (noted_scope scope) s around l) (λ here. left (after_leaf s l) here rest) around
   left_leaf s around l rest plain h =
-      trees_of_piece s around (leaf l rest) (λ e. absurd (cc e)) plain ∙ at_token dialect world unnumbered scope S deep s around l rest h
+      trees_of_piece s around (leaf l rest) (λ e. absurd (cc e)) plain ∙ at_token dialect (noted_world world) noted_local (noted_scope scope) S deep s around l rest h
 
   -- a group
   pub left_group : (s : Begun) (around : Around) (d : Delimiter) (inner rest : Forest) → IsPlain around.standing s (group d inner rest)
       → left s around (group d inner rest)
       ≡ and_next (in_brackets around.outer d (S (record around { standing = in_group s d.kind around.standing }) inner)) (λ here. left (after_group s d.kind) here rest) around
   left_group s around d inner rest plain =
-      trees_of_piece s around (group d inner rest) (λ e. absurd (cc e)) plain ∙ at_group dialect world unnumbered scope S deep s around d inner rest
+      trees_of_piece s around (group d inner rest) (λ e. absurd (cc e)) plain ∙ at_group dialect (noted_world world) noted_local (noted_scope scope) S deep s around d inner rest
 
   -- a call whose argument is this
-  abbrev pub called_in : Around → Path → Ident → Punct → Delimiter → Forest → Scoped Numbered
+  abbrev pub called_in : Around → Path → Ident → Punct → Delimiter → Forest → Scoped (Noted Numbered)
   called_in around path name bang d argument =
-      at_call dialect world unnumbered scope deep around path name
-      (record { at = name.span; whole = whole_call path name bang d argument; argument = argument })
-      (kept_call dialect world unnumbered scope S around path name bang d argument)
+      at_call dialect (noted_world world) noted_local (noted_scope scope) deep around path name
+      (call_site path name bang d argument)
+      (kept_call dialect (noted_world world) noted_local (noted_scope scope) S around path name bang d argument)
 
   -- whether a `;` right behind it goes with it
-  abbrev pub takes_in : Begun → Around → Path → Ident → Delimiter → Forest → Bool
-  takes_in s around path name d argument = takes_end dialect world unnumbered scope deep s around path name d argument
+  abbrev pub takes_in : Begun → Around → Path → Ident → Punct → Delimiter → Forest → Bool
+  takes_in s around path name bang d argument = takes_end dialect (noted_world world) noted_local (noted_scope scope) deep s around path name d (call_site path name bang d argument)
 
   some_call : (path : Path) (name : Ident) (bang : Punct) (d : Delimiter) (inner rest : Forest) → call_before name bang d inner path rest ≢ empty
   some_call bare name bang d inner rest = λ e. absurd (cc e)
@@ -129,14 +130,14 @@ module _ (dialect : Dialect) (world : World Numbered) (scope : List ℕ → Opti
   pub left_call : (s : Begun) (around : Around) (path : Path) (name : Ident) (bang : Punct) (d : Delimiter) (inner rest : Forest) → AreOfCall path bang d
       → IsPlain around.standing s (call_before name bang d inner path rest)
       → left s around (call_before name bang d inner path rest)
-      ≡ and_next (called_in around path name bang d inner) (λ here. left (after_call (takes_in s around path name d inner) s d.kind) here rest) around
+      ≡ and_next (called_in around path name bang d inner) (λ here. left (after_call (takes_in s around path name bang d inner) s d.kind) here rest) around
   left_call s around path name bang d inner rest h plain =
       trees_of_piece s around (call_before name bang d inner path rest) (some_call path name bang d inner rest) plain
-      ∙ at_a_call dialect world unnumbered scope S deep s around path name bang d inner rest h
+      ∙ at_a_call dialect (noted_world world) noted_local (noted_scope scope) S deep s around path name bang d inner rest h
 
 -- ---- a list, and the lists around it
 
-pub then_assoc : (a b : Outcome Numbered) (l : Left) → then_left (followed_by a b) l ≡ then_left a (then_left b l)
+pub then_assoc : (a b : Outcome (Noted Numbered)) (l : Left) → then_left (followed_by a b) l ≡ then_left a (then_left b l)
 then_assoc a b l = λ i. (followed_assoc a b l.0 i, l.1)
 
 module _ (dialect : Dialect) (world : World Numbered) (scope : List ℕ → Option Numbered) (depth : ℕ) (outer : Option Span) where
@@ -144,16 +145,16 @@ module _ (dialect : Dialect) (world : World Numbered) (scope : List ℕ → Opti
   here_in standing locals = record { standing = standing; outer = outer; locals = locals }
 
   -- trees of a list were passed
-  pub passed_in : (s t : Begun) (standing : Standing) (locals : List Definition) (f g : Forest) (a : Scoped Numbered) (next : List Definition → Left)
+  pub passed_in : (s t : Begun) (standing : Standing) (locals : List Definition) (f g : Forest) (a : Scoped (Noted Numbered)) (next : List Definition → Left)
       → list_left dialect world scope depth s (here_in standing locals) f ≡ and_next a (λ here. list_left dialect world scope depth t here g) (here_in standing locals)
       → in_list dialect world scope depth outer s standing locals f next ≡ then_left a.outcome (in_list dialect world scope depth outer t standing (a.defines ++ locals) g next)
   passed_in s t standing locals f g a next e =
-      let b : Scoped Numbered = list_left dialect world scope depth t (here_in standing (a.defines ++ locals)) g in
-      ap (λ (x : Scoped Numbered). then_left x.outcome (next (x.defines ++ locals))) e
+      let b : Scoped (Noted Numbered) = list_left dialect world scope depth t (here_in standing (a.defines ++ locals)) g in
+      ap (λ (x : Scoped (Noted Numbered)). then_left x.outcome (next (x.defines ++ locals))) e
       ∙ ap (λ ls. then_left (followed_by a.outcome b.outcome) (next ls)) (append_assoc b.defines a.defines locals)
       ∙ then_assoc a.outcome b.outcome (next (b.defines ++ (a.defines ++ locals)))
 
-  grouped_is : (d : Delimiter) (a : Outcome Numbered) → grouped outer d a
+  grouped_is : (d : Delimiter) (a : Outcome (Noted Numbered)) → grouped outer d a
       ≡ followed_by (just outer (opens d.kind d.open_span ∷ [])) (followed_by a (just outer (closes d.kind d.close_span ∷ [])))
   grouped_is d a = outcome_eq _ _ refl (sym (append-nil a.faults)) (sym (append-nil a.finds)) (sym (or_false a.bursts))
 
@@ -167,16 +168,16 @@ module _ (dialect : Dialect) (world : World Numbered) (scope : List ℕ → Opti
 
   -- a group is entered: its trees are left, and then what is left behind it
   pub entered_in : (t : Begun) (standing inside : Standing) (locals : List Definition) (d : Delimiter) (inner rest : Forest) (gs : List Open)
-      → (let a : Scoped Numbered = in_brackets outer d (searched dialect world scope depth (here_in inside locals) inner) in
+      → (let a : Scoped (Noted Numbered) = in_brackets outer d (searched dialect world scope depth (here_in inside locals) inner) in
       then_left a.outcome (in_list dialect world scope depth outer t standing (a.defines ++ locals) rest (groups_left dialect world scope depth outer gs)))
       ≡ then_left (just outer (opens d.kind d.open_span ∷ []))
       (in_list dialect world scope depth outer Nothing inside locals inner (groups_left dialect world scope depth outer (opened d rest t standing locals ∷ gs)))
   entered_in t standing inside locals d inner rest gs =
-      let a : Scoped Numbered = searched dialect world scope depth (here_in inside locals) inner in
-      let opening : Outcome Numbered = just outer (opens d.kind d.open_span ∷ []) in
-      let closing : Outcome Numbered = just outer (closes d.kind d.close_span ∷ []) in
+      let a : Scoped (Noted Numbered) = searched dialect world scope depth (here_in inside locals) inner in
+      let opening : Outcome (Noted Numbered) = just outer (opens d.kind d.open_span ∷ []) in
+      let closing : Outcome (Noted Numbered) = just outer (closes d.kind d.close_span ∷ []) in
       let later : List Definition → Left = λ ls. in_list dialect world scope depth outer t standing ls rest (groups_left dialect world scope depth outer gs) in
-      let whole : Scoped Numbered → Left = λ x.
+      let whole : Scoped (Noted Numbered) → Left = λ x.
       then_left x.outcome (then_left closing (later (let_out d.kind locals (x.defines ++ locals)))) in
       ap (λ ls. then_left (grouped outer d a.outcome) (later ls)) (let_out_is (is_visible d.kind) a.defines locals)
       ∙ ap (λ o. then_left o (later (let_out d.kind locals (a.defines ++ locals)))) (grouped_is d a.outcome)
@@ -188,14 +189,14 @@ module _ (dialect : Dialect) (world : World Numbered) (scope : List ℕ → Opti
   pub left_at_end : (s : Begun) (standing : Standing) (locals : List Definition) (gs : List Open)
       → in_list dialect world scope depth outer s standing locals empty (groups_left dialect world scope depth outer gs) ≡ groups_left dialect world scope depth outer gs locals
   left_at_end s standing locals gs =
-      ap (λ (x : Scoped Numbered). then_left x.outcome (groups_left dialect world scope depth outer gs (x.defines ++ locals)))
+      ap (λ (x : Scoped (Noted Numbered)). then_left x.outcome (groups_left dialect world scope depth outer gs (x.defines ++ locals)))
       (left_empty dialect world scope depth s (here_in standing locals))
 
   -- all that is left at the beginning
   pub left_at_beginning : (standing : Standing) (locals : List Definition) (f : Forest)
-      → (let a : Scoped Numbered = searched dialect world scope depth (here_in standing locals) f in (a.outcome, a.defines ++ locals))
+      → (let a : Scoped (Noted Numbered) = searched dialect world scope depth (here_in standing locals) f in (a.outcome, a.defines ++ locals))
       ≡ all_left dialect world scope depth outer (record { here = f; begun = Nothing; standing = standing; locals = locals; groups = [] })
   left_at_beginning standing locals f =
-      let a : Scoped Numbered = list_left dialect world scope depth Nothing (here_in standing locals) f in
-      ap (λ (x : Scoped Numbered). (x.outcome, x.defines ++ locals)) (searched_is dialect world scope depth (here_in standing locals) f)
-      ∙ ap (λ (o : Outcome Numbered). (o, a.defines ++ locals)) (sym (followed_by_nothing a.outcome outer))
+      let a : Scoped (Noted Numbered) = list_left dialect world scope depth Nothing (here_in standing locals) f in
+      ap (λ (x : Scoped (Noted Numbered)). (x.outcome, x.defines ++ locals)) (searched_is dialect world scope depth (here_in standing locals) f)
+      ∙ ap (λ (o : Outcome (Noted Numbered)). (o, a.defines ++ locals)) (sym (followed_by_nothing a.outcome outer))

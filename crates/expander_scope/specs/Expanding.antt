@@ -1,13 +1,15 @@
 -- The search of lists for calls, in a tree with piece-relative spans, and what it adds to an
 -- output.
-use Rattle.std.specs.Prelude.{◌≡◌, ℕ, zero, suc, Bool, false, ◌&&◌, not, List, ◌++◌, map, Option, Some, None, Result, Ok, Err, if◌then◌else◌}
+use Rattle.std.specs.Prelude.{◌≡◌, ℕ, zero, suc, Bool, false, ◌&&◌, not, List, ◌++◌, map, Option, Some, None, option_map, Result, Ok, Err, if◌then◌else◌}
 use Rattle.tt_data.specs.Forest.{Forest, size}
 use Rattle.tt.specs.Tops.{Top}
 use Rattle.expander_scope.specs.declared.expand.Expanding.{Expanding}
 use Rattle.expander_model.specs.declared.fault.FaultKind.{FaultKind}
 use Rattle.expander_model.specs.declared.fault.FaultKind.TheVariants.{CannotExpand, BrokenDefinition, RecursionLimit}
 use Rattle.expander_model.specs.Expansion.{World, Outcome, PlacedStep}
-use Rattle.expander_model.specs.Scoping.{Around, Search, scoped, search_list}
+use Rattle.expander_model.specs.Definitions.{Definition}
+use Rattle.expander_model.specs.Scoping.{Around, Expander, Scoped, Search, defined}
+use Rattle.textual_scope.specs.Limits.{Noted, definition, looked_in, noted, noted_attempt, noted_list, noted_world}
 use Rattle.expander_model.specs.declared.scope_rules.Standing.{Standing}
 use Rattle.expander_scope.specs.LocalTables.{locals_of}
 use Rattle.expander_scope.specs.declared.locals.Locals.{Locals}
@@ -28,17 +30,25 @@ answer_at zero given = Err RecursionLimit
 answer_at (suc n) None = Err CannotExpand
 answer_at (suc n) (Some result) = Ok result
 
-module _ (dialect : Dialect) (world : World Numbered) where
-  -- how results are searched with so many levels left: not at all with none
-  abbrev pub deeper_at : (List ℕ → Option Numbered) → ℕ → Option (Search Numbered)
-  deeper_at scope zero = None
-  deeper_at scope (suc n) = Some (scoped dialect world unnumbered scope n)
+-- a definition of a list, where notes are among definitions
+abbrev pub noted_local : Definition → Noted Numbered
+noted_local d = definition (unnumbered d)
 
-  -- the search of a list with so many levels left
-  abbrev pub searched : (List ℕ → Option Numbered) → ℕ → Search Numbered
+-- what names find there
+abbrev pub noted_scope : (List ℕ → Option Numbered) → List ℕ → Option (Noted Numbered)
+noted_scope scope key = option_map definition (scope key)
+
+module _ (dialect : Dialect) (world : World Numbered) where
+  -- how calls are expanded with so many levels left, with notes: not at all with none
+  abbrev pub deeper_at : (List ℕ → Option Numbered) → ℕ → Option (Expander (Noted Numbered))
+  deeper_at scope zero = None
+  deeper_at scope (suc n) =
+      Some (noted_attempt dialect world unnumbered scope (noted dialect world unnumbered scope n))
+
+  -- the search of a list with so many levels left, with notes
+  abbrev pub searched : (List ℕ → Option Numbered) → ℕ → Search (Noted Numbered)
   searched scope depth around f =
-      search_list dialect world unnumbered scope (deeper_at scope depth)
-      (suc (size f)) around f
+      noted_list dialect world unnumbered scope (deeper_at scope depth) (suc (size f)) around f
 
 module _ (world : World Numbered) where
   -- the result of a call with so many levels left, or the fault for which the call stays
@@ -56,9 +66,17 @@ abbrev pub world_under : Grammar → table.Scope → Dialect → World Numbered
 world_under grammar s dialect = numbered_world (world grammar s.edition dialect)
 
 -- the search of a list by this grammar and dialect, in the scope of this table
-abbrev pub searched_under : Grammar → table.Scope → Dialect → ℕ → Search Numbered
+abbrev pub searched_under : Grammar → table.Scope → Dialect → ℕ → Search (Noted Numbered)
 searched_under grammar s dialect depth around f =
     searched dialect (world_under grammar s dialect) (scope_in s) depth around f
+
+-- what a definition of a list adds and prints by this grammar and dialect, in the scope of this
+-- table
+abbrev pub defined_under : Grammar → table.Scope → Dialect → Around → Definition
+    → Scoped (Noted Numbered)
+defined_under grammar s dialect around d =
+    defined dialect (noted_world (world_under grammar s dialect)) noted_local
+    (noted_scope (scope_in s)) around d
 
 -- a list with these definitions around
 abbrev pub around_in : Standing → Option Span → Locals → Around
@@ -72,11 +90,11 @@ trees_of (Err kind) = Err kind
 
 -- `Has` tells which events a sink has taken
 module _ {S : Type 0} (Has : S → List PlacedStep → Type 0) where
-  -- an expansion result is appended to the output
-  pub record Adds (old new : Expanding S) (o : Outcome Numbered) : Type 0 where
+  -- an expansion result is appended to the output, without its notes
+  pub record Adds (old new : Expanding S) (o : Outcome (Noted Numbered)) : Type 0 where
     pub steps : TakesMore Has old.output new.output o.steps
     pub faults : new.faults.items ≡ old.faults.items ++ o.faults
-    pub finds : map find_of new.finds.items ≡ map find_of old.finds.items ++ o.finds
+    pub finds : map find_of new.finds.items ≡ map find_of old.finds.items ++ looked_in o.finds
 
   -- a sink has taken an expansion result's events after all earlier ones; its faults and look-ups
   -- are these

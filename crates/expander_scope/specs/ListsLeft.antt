@@ -9,15 +9,16 @@ use Rattle.tt_data.specs.declared.leaf.Leaf.TheVariants as as_leaf
 use Rattle.tt_data.specs.declared.span.Span.{Span}
 use Rattle.expander_model.specs.Definitions.{Definition, definition_of}
 use Rattle.expander_model.specs.Expansion.{World, Outcome, just, followed_by}
-use Rattle.expander_model.specs.Held.{Numbered, unnumbered}
+use Rattle.expander_model.specs.Held.{Numbered}
 use Rattle.expander_model.specs.Pieces.{cut}
 use Rattle.cfg_options.specs.declared.options.CfgOptions.{CfgOptions}
 use Rattle.expander_model.specs.Scoping.{Around, Scoped, is_out}
 use Rattle.expander_model.specs.declared.begun.Begun.{Begun}
 use Rattle.expander_model.specs.declared.dialect.Dialect.{Dialect}
 use Rattle.expander_model.specs.declared.scope_rules.Standing.{Standing}
-use Rattle.expander_scope.specs.Expanding.{deeper_at, searched}
+use Rattle.expander_scope.specs.Expanding.{deeper_at, noted_local, noted_scope, searched}
 use Rattle.textual_scope.specs.FromLeft.{left_after}
+use Rattle.textual_scope.specs.Limits.{Noted, noted_world}
 
 -- ---- definitions ahead
 
@@ -63,10 +64,10 @@ pub record Place : Type 0 where
 
 -- what a search of lists gives, and the definitions around once it ends
 abbrev pub Left : Type 0
-Left = Outcome Numbered × List Definition
+Left = Outcome (Noted Numbered) × List Definition
 
 -- after an outcome
-abbrev pub then_left : Outcome Numbered → Left → Left
+abbrev pub then_left : Outcome (Noted Numbered) → Left → Left
 then_left o l = (followed_by o l.0, l.1)
 
 -- what goes on behind a group: all, or if it is visible those that were around it
@@ -76,9 +77,10 @@ let_out k around inside = if is_visible k then around else inside
 module _ (dialect : Dialect) (world : World Numbered) (scope : List ℕ → Option Numbered)
     (depth : ℕ) where
   -- the search of the trees left in a list
-  abbrev pub list_left : Begun → Around → Forest → Scoped Numbered
+  abbrev pub list_left : Begun → Around → Forest → Scoped (Noted Numbered)
   list_left s around f =
-      left_after dialect world unnumbered scope (searched dialect world scope depth)
+      left_after dialect (noted_world world) noted_local (noted_scope scope)
+      (searched dialect world scope depth)
       (deeper_at dialect world scope depth) s around f
 
   module _ (outer : Option Span) where
@@ -86,7 +88,7 @@ module _ (dialect : Dialect) (world : World Numbered) (scope : List ℕ → Opti
     abbrev pub in_list : Begun → Standing → List Definition → Forest → (List Definition → Left)
         → Left
     in_list s standing locals f next =
-        let a : Scoped Numbered =
+        let a : Scoped (Noted Numbered) =
         list_left s
         (record { standing = standing; outer = outer; locals = locals }) f in
         then_left a.outcome (next (a.defines ++ locals))

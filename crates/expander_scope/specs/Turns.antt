@@ -28,6 +28,7 @@ use Rattle.expander_model.specs.declared.scope_rules.Standing.TheVariants.{Argum
 use Rattle.expander_model.specs.declared.fault.FaultKind.{FaultKind}
 use Rattle.expander_model.specs.declared.fault.FaultKind.TheVariants.{BrokenDefinition}
 use Rattle.expander_model.specs.declared.tree_walk.Around.{Around}
+use Rattle.textual_scope.specs.Limits.{Noted}
 use Rattle.expander_scope.specs.Expanding.{Adds, searched, world_under}
 use Rattle.expander_scope.specs.ListsLeft.{IsAhead, IsOutAhead, Left, Open, Place, all_left, groups_left, in_list, then_left}
 use Rattle.expander_scope.specs.LocalTables.{AreReadIn, locals_of}
@@ -143,7 +144,7 @@ module _ (dialect : Dialect) (world : World Numbered) (scope : List ℕ → Opti
   -- what is left where the group ahead is that of a call that stays
   abbrev pub argument_left : Place → Forest → Left
   argument_left p (group d inner rest) =
-      let a : Scoped Numbered =
+      let a : Scoped (Noted Numbered) =
       in_brackets outer d (searched dialect world scope depth
       (record { standing = Argument; outer = outer; locals = p.locals }) inner) in
       then_left a.outcome
@@ -168,7 +169,7 @@ module _ (dialect : Dialect) (world : World Numbered) (scope : List ℕ → Opti
       (from : Left) (old new : Search S) (before after : ListWalk) : Type 0 where
     pub next : Place
     pub at : IsAt after new.locals next
-    pub outcome : Outcome Numbered
+    pub outcome : Outcome (Noted Numbered)
     pub is : from ≡ then_left outcome (all_left dialect world scope depth outer next)
     pub adds : Adds Has old.out new.out outcome
     pub read : AreReadIn edition old.locals → AreReadIn edition new.locals

@@ -15,11 +15,11 @@ ghost use Rattle.expander_model.specs.CallSteps.{call_at};
 ghost use Rattle.expander_model.specs.Definitions.{Definition, definition_of};
 ghost use Rattle.expander_model.specs.Expansion.{Deeper, World, just, placed, search_calls};
 ghost use Rattle.expander_model.specs.Held.{Numbered, numbered_world, unnumbered};
-ghost use Rattle.expander_model.specs.Scoping.{defined, is_left_out};
+ghost use Rattle.expander_model.specs.Scoping.{is_left_out};
 ghost use Rattle.expander_model.specs.World.{fit_of, made, world};
 ghost use Rattle.textual_scope.specs.Keywords.{HasNoKeyword};
 ghost use Rattle.expander_scope.specs.Editions.{IsRead};
-ghost use Rattle.expander_scope.specs.Expanding.{Adds, Expands, answer, around_in, makes_too_many, searched_under, trees_of, world_under};
+ghost use Rattle.expander_scope.specs.Expanding.{Adds, Expands, answer, around_in, defined_under, makes_too_many, searched_under, trees_of, world_under};
 ghost use Rattle.expander_model.specs.declared.scope_rules.Standing.TheVariants.{Argument};
 ghost use Rattle.tt_data.specs.Lent.{leaf_lent};
 ghost use Rattle.expander_model.specs.Scoping.{in_group};
@@ -453,11 +453,9 @@ fn define<G: FragmentGrammar, S: EventSink>(
     piece: &TtIter<'_>,
 ) -> Result<(), TtFault>
     requires definition { is_some (definition_of piece.now) ≡ true }
-    ensures adds { OnOk result ((dialect : Dialect) (d : Definition) (locals : List Definition) →
+    ensures adds { OnOk result ((d : Definition) (locals : List Definition) →
         definition_of piece.now ≡ Some d → Adds S.has_taken search.old.out search.new.out
-        (defined dialect
-        (world_under (G.answer env.now.grammar.now) env.now.scope.now env.now.dialect.now) unnumbered
-        (scope_in env.now.scope.now)
+        (defined_under (G.answer env.now.grammar.now) env.now.scope.now env.now.dialect.now
         (record { standing = standing; outer = outer; locals = locals }) d).outcome) }
     ensures locals { OnOk result ((d : Definition) → definition_of piece.now ≡ Some d →
         locals_of search.new.locals ≡ d ∷ locals_of search.old.locals) }

@@ -24,7 +24,7 @@ use Rattle.cfg_options.specs.Strings.{string_text}
 use Rattle.cfg_options.specs.declared.options.CfgOptions.{CfgOptions}
 use Rattle.expander_model.proofs.ConditionPlaceLemmas.{left_out-with}
 use Rattle.expander_model.specs.Pieces.{cut}
-use Rattle.expander_model.specs.Expansion.{World, Outcome, CallSite, just, followed_by, grouped, faulted, found, bursting, before_group, whole_call}
+use Rattle.expander_model.specs.Expansion.{World, Outcome, CallSite, just, followed_by, grouped, faulted, found, bursting, before_group}
 use Rattle.expander_model.specs.OtherPlaces.{definition_with}
 use Rattle.expander_model.proofs.DefinitionPlaceLemmas.{definition_of-with}
 use Rattle.expander_model.specs.PieceStates.{after_call, after_group, after_leaf, is_dropped}
@@ -36,7 +36,7 @@ use Rattle.expander_model.specs.declared.scope_rules.ScopeRules.TheVariants.{Top
 use Rattle.textual_scope.specs.ScopeChanges.{around_with, scoped_with}
 use Rattle.expander_model.specs.declared.scope_rules.Standing.TheVariants.{Top, Enclosed, Items, Argument}
 use Rattle.expander_model.specs.declared.scope_rules.Standing.{Standing}
-use Rattle.expander_model.specs.Scoping.{Around, Scoped, Search, PieceKind, out_piece, definition_piece, plain_piece, definition_in, is_found, is_out, kind_of, kind_in, is_left_out, in_group, behind, only, and_next, in_brackets, defined, fitted, at_level, unbroken, looked_up, at_key, at_call, kept_call, search_leaf, found_at, is_expanded, is_alone_in, takes_end, search_trees, search_piece, search_pieces, search_list, scoped}
+use Rattle.expander_model.specs.Scoping.{call_site, Around, Scoped, Search, Expander, Attempt, attempt, PieceKind, out_piece, definition_piece, plain_piece, definition_in, is_found, is_out, kind_of, kind_in, is_left_out, in_group, behind, only, and_next, in_brackets, defined, fitted, at_level, unbroken, looked_up, at_key, at_call, kept_call, search_leaf, found_at, is_replaced, is_alone_in, takes_end, search_trees, search_piece, search_pieces, search_list, scoped}
 use Rattle.textual_scope.proofs.MarkChangeLemmas.{ident_with, punct_with, path_with, marked_with, marked-with, in_front-with, unmarked-with, cut-with, outer-with, site_with, followed-with, just-with, walk-with, grouped-with, stays-with}
 use Rattle.textual_scope.proofs.ResultLemmas.{scoped_same}
 use Rattle.textual_scope.proofs.StateLemmas.{after_leaf-with, is_dropped-with}
@@ -130,12 +130,20 @@ module _ {D E : Type 0} (f : Span → Span) (h : D → E) where
       ∙ ap (faulted BrokenDefinition (f (unwrap_or outer d.name.span))) (shown-with left outer d.piece)
 
   -- what searches a list gives the same at other spans
-  abbrev SameWith : Search D → Search E → Type 0
+  abbrev pub SameWith : Search D → Search E → Type 0
   SameWith one two = (around : Around) (g : Forest) → two (around_with f around) (map_spans f g) ≡ scoped_with f h (one around g)
 
-  abbrev DeeperWith : Option (Search D) → Option (Search E) → Type 0
+  -- an attempt at a call, at other spans
+  abbrev pub attempt_with : Attempt D → Attempt E
+  attempt_with a = record { replaces = a.replaces; given = scoped_with f h a.given }
+
+  -- what expands calls gives the same at other spans
+  abbrev pub SameFrom : Expander D → Expander E → Type 0
+  SameFrom one two = (d : D) (around : Around) (site : CallSite) → two (h d) (around_with f around) (site_with f site) ≡ attempt_with (one d around site)
+
+  abbrev DeeperWith : Option (Expander D) → Option (Expander E) → Type 0
   DeeperWith None None = Unit {0}
-  DeeperWith (Some one) (Some two) = SameWith one two
+  DeeperWith (Some one) (Some two) = SameFrom one two
   DeeperWith None (Some two) = ⊥
   DeeperWith (Some one) None = ⊥
 
@@ -158,23 +166,29 @@ module _ {D E : Type 0} (f : Span → Span) (h : D → E) where
         ap (λ (s : Span). two (record { standing = around.standing; outer = Some s; locals = map (definition_with f) around.locals }) (map_spans f g)) (outer-with f around.outer site.at)
         ∙ same (record around { outer = Some (unwrap_or around.outer site.at) }) g
 
-    level-with : (d : D) (one : Option (Search D)) (two : Option (Search E)) → DeeperWith one two → (around : Around) (site : CallSite)
+    pub attempt-with : (one : Search D) (two : Search E) → SameWith one two → SameFrom (attempt dialect w local scope one) (attempt dialect v local' changed two)
+    attempt-with one two same d around site =
+        let here : Option Forest → Scoped E = λ r. fitted dialect v local' changed two (around_with f around) (site_with f site) r in
+        let of : Bool → Bool → Scoped E → Attempt E = λ replaces b a. record { replaces = replaces; given = record a { outcome = bursting b a.outcome } } in
+        let given : Option Forest = v.fit (h d) (map_spans f site.argument) in
+        ap (λ (b : Bool). of (is_some given) b (here given)) (c.bursts d site.argument)
+        ∙ ap (λ (r : Option Forest). of (is_some r) (w.bursts d site.argument) (here r)) (c.fit d site.argument)
+        ∙ ap (λ (b : Bool). of b (w.bursts d site.argument) (here (option_map (map_spans f) (w.fit d site.argument)))) (some-map (map_spans f) (w.fit d site.argument))
+        ∙ ap (of (is_some (w.fit d site.argument)) (w.bursts d site.argument)) (fitted-with one two same around site (w.fit d site.argument))
+
+    level-with : (d : D) (one : Option (Expander D)) (two : Option (Expander E)) → DeeperWith one two → (around : Around) (site : CallSite)
         → at_level dialect v local' changed (h d) two (around_with f around) (site_with f site) ≡ scoped_with f h (at_level dialect w local scope d one around site)
     level-with d None None same around site = ap (λ (o : Outcome E). only o) (stays-with f h RecursionLimit around.outer site)
-    level-with d (Some one) (Some two) same around site =
-        let here : Option Forest → Scoped E = λ r. fitted dialect v local' changed two (around_with f around) (site_with f site) r in
-        ap (λ (b : Bool). let a : Scoped E = here (v.fit (h d) (map_spans f site.argument)) in record a { outcome = bursting b a.outcome }) (c.bursts d site.argument)
-        ∙ ap (λ (a : Scoped E). record a { outcome = bursting (w.bursts d site.argument) a.outcome })
-        (ap here (c.fit d site.argument) ∙ fitted-with one two same around site (w.fit d site.argument))
+    level-with d (Some one) (Some two) same around site = ap (λ (a : Attempt E). a.given) (same d around site)
     level-with d None (Some two) same around site = absurd same
     level-with d (Some one) None same around site = absurd same
 
-    unbroken-with : (d : D) (b : Bool) (one : Option (Search D)) (two : Option (Search E)) → DeeperWith one two → (around : Around) (site : CallSite)
+    unbroken-with : (d : D) (b : Bool) (one : Option (Expander D)) (two : Option (Expander E)) → DeeperWith one two → (around : Around) (site : CallSite)
         → unbroken dialect v local' changed (h d) b two (around_with f around) (site_with f site) ≡ scoped_with f h (unbroken dialect w local scope d b one around site)
     unbroken-with d true one two same around site = ap (λ (o : Outcome E). only o) (stays-with f h BrokenDefinition around.outer site)
     unbroken-with d false one two same around site = level-with d one two same around site
 
-    looked_up-with : (r : Option D) (one : Option (Search D)) (two : Option (Search E)) → DeeperWith one two → (around : Around) (site : CallSite)
+    looked_up-with : (r : Option D) (one : Option (Expander D)) (two : Option (Expander E)) → DeeperWith one two → (around : Around) (site : CallSite)
         → (kept : Scoped D) (kept' : Scoped E) → kept' ≡ scoped_with f h kept
         → looked_up dialect v local' changed (option_map h r) two (around_with f around) (site_with f site) kept' ≡ scoped_with f h (looked_up dialect w local scope r one around site kept)
     looked_up-with None one two same around site kept kept' e = e
@@ -182,7 +196,7 @@ module _ {D E : Type 0} (f : Span → Span) (h : D → E) where
         ap (λ (b : Bool). unbroken dialect v local' changed (h d) b two (around_with f around) (site_with f site)) (c.broken d)
         ∙ unbroken-with d (w.broken d) one two same around site
 
-    key-with : (r : Option Definition) (key : List ℕ) (one : Option (Search D)) (two : Option (Search E)) → DeeperWith one two → (around : Around) (site : CallSite)
+    key-with : (r : Option Definition) (key : List ℕ) (one : Option (Expander D)) (two : Option (Expander E)) → DeeperWith one two → (around : Around) (site : CallSite)
         → (kept : Scoped D) (kept' : Scoped E) → kept' ≡ scoped_with f h kept
         → at_key dialect v local' changed (option_map (definition_with f) r) key two (around_with f around) (site_with f site) kept'
         ≡ scoped_with f h (at_key dialect w local scope r key one around site kept)
@@ -194,7 +208,7 @@ module _ {D E : Type 0} (f : Span → Span) (h : D → E) where
         record a { outcome = found key r a.outcome }) (finds key)
         ∙ ap (λ (a : Scoped E). record a { outcome = found key (option_map h (scope key)) a.outcome }) (looked_up-with (scope key) one two same around site kept kept' e)
 
-    call-with : (path : Path) (name : Ident) (one : Option (Search D)) (two : Option (Search E)) → DeeperWith one two → (around : Around) (site : CallSite)
+    call-with : (path : Path) (name : Ident) (one : Option (Expander D)) (two : Option (Expander E)) → DeeperWith one two → (around : Around) (site : CallSite)
         → (kept : Scoped D) (kept' : Scoped E) → kept' ≡ scoped_with f h kept
         → at_call dialect v local' changed two (around_with f around) (path_with f path) (ident_with f name) (site_with f site) kept'
         ≡ scoped_with f h (at_call dialect w local scope one around path name site kept)
@@ -215,6 +229,13 @@ module _ {D E : Type 0} (f : Span → Span) (h : D → E) where
         go true = only-with (just around.outer []) _ (just-with f h around.outer [])
         go false = only-with (just around.outer (at_leaf l ∷ [])) _ (just-with f h around.outer (at_leaf l ∷ []))
 
+    -- a call at other spans
+    site-with : (path : Path) (name : Ident) (bang : Punct) (d : Delimiter) (argument : Forest)
+        → call_site (path_with f path) (ident_with f name) (punct_with f bang) (delimiter_with f d) (map_spans f argument) ≡ site_with f (call_site path name bang d argument)
+    site-with path name bang d argument =
+        ap (λ (whole : Forest). record { at = f name.span; whole = whole; argument = map_spans f argument })
+        (in_front-with f path (leaf (as_leaf.Ident name) (leaf (as_leaf.Punct bang) (group d argument empty))))
+
     -- what a call's name finds
     found_at-with : (around : Around) (path : Path) (name : Ident)
         → found_at dialect v local' changed (around_with f around) (path_with f path) (ident_with f name) ≡ option_map h (found_at dialect w local scope around path name)
@@ -227,26 +248,26 @@ module _ {D E : Type 0} (f : Span → Span) (h : D → E) where
     found_at-with around (from_crate root p q) name = finds (key_of (from_crate root p q) name)
     found_at-with around (other p q) name = refl
 
-    expanded-with : (one : Option (Search D)) (two : Option (Search E)) → DeeperWith one two → (r : Option D) (argument : Forest)
-        → is_expanded dialect v local' changed two (option_map h r) (map_spans f argument) ≡ is_expanded dialect w local scope one r argument
-    expanded-with None None same r argument = refl
-    expanded-with (Some one) (Some two) same None argument = refl
-    expanded-with (Some one) (Some two) same (Some d) argument =
-        ap (λ (b : Bool). not b && is_some (v.fit (h d) (map_spans f argument))) (c.broken d)
-        ∙ ap (λ (b : Bool). not (w.broken d) && b) (ap is_some (c.fit d argument) ∙ some-map (map_spans f) (w.fit d argument))
-    expanded-with None (Some two) same r argument = absurd same
-    expanded-with (Some one) None same r argument = absurd same
+    replaced-with : (one : Option (Expander D)) (two : Option (Expander E)) → DeeperWith one two → (r : Option D) (around : Around) (site : CallSite)
+        → is_replaced dialect v local' changed two (option_map h r) (around_with f around) (site_with f site) ≡ is_replaced dialect w local scope one r around site
+    replaced-with None None same r around site = refl
+    replaced-with (Some one) (Some two) same None around site = refl
+    replaced-with (Some one) (Some two) same (Some d) around site =
+        ap (λ (b : Bool). not b && (two (h d) (around_with f around) (site_with f site)).replaces) (c.broken d)
+        ∙ ap (λ (a : Attempt E). not (w.broken d) && a.replaces) (same d around site)
+    replaced-with None (Some two) same r around site = absurd same
+    replaced-with (Some one) None same r around site = absurd same
 
     -- whether a `;` goes with the call
-    end-with : (s : Begun) (around : Around) (path : Path) (name : Ident) (d : Delimiter) (argument : Forest) (one : Option (Search D)) (two : Option (Search E)) → DeeperWith one two
-        → takes_end dialect v local' changed two s (around_with f around) (path_with f path) (ident_with f name) (delimiter_with f d) (map_spans f argument)
-        ≡ takes_end dialect w local scope one s around path name d argument
-    end-with s around path name d argument one two same =
+    end-with : (s : Begun) (around : Around) (path : Path) (name : Ident) (d : Delimiter) (one : Option (Expander D)) (two : Option (Expander E)) → DeeperWith one two → (site : CallSite)
+        → takes_end dialect v local' changed two s (around_with f around) (path_with f path) (ident_with f name) (delimiter_with f d) (site_with f site)
+        ≡ takes_end dialect w local scope one s around path name d site
+    end-with s around path name d one two same site =
         let alone : Bool = is_alone_in dialect s around.standing d in
-        ap (λ (r : Option E). alone && is_expanded dialect v local' changed two r (map_spans f argument)) (found_at-with around path name)
-        ∙ ap (λ (b : Bool). alone && b) (expanded-with one two same (found_at dialect w local scope around path name) argument)
+        ap (λ (r : Option E). alone && is_replaced dialect v local' changed two r (around_with f around) (site_with f site)) (found_at-with around path name)
+        ∙ ap (λ (b : Bool). alone && b) (replaced-with one two same (found_at dialect w local scope around path name) around site)
 
-    module _ (one : Search D) (two : Search E) (same : SameWith one two) (deep : Option (Search D)) (deep' : Option (Search E)) (deeper : DeeperWith deep deep') where
+    module _ (one : Search D) (two : Search E) (same : SameWith one two) (deep : Option (Expander D)) (deep' : Option (Expander E)) (deeper : DeeperWith deep deep') where
       kept-with : (around : Around) (path : Path) (name : Ident) (bang : Punct) (d : Delimiter) (inner : Forest)
           → kept_call dialect v local' changed two (around_with f around) (path_with f path) (ident_with f name) (punct_with f bang) (delimiter_with f d) (map_spans f inner)
           ≡ scoped_with f h (kept_call dialect w local scope one around path name bang d inner)
@@ -284,24 +305,25 @@ module _ {D E : Type 0} (f : Span → Span) (h : D → E) where
           ∙ brackets-with around.outer d (one inner (unmarked a)))
           (λ here. trees-with (after_group s d.kind) here rest)
       trees-with s around (call path name bang d a rest) =
-          let site : CallSite = record { at = name.span; whole = whole_call path name bang d (unmarked a); argument = unmarked a } in
+          let site : CallSite = call_site path name bang d (unmarked a) in
           let kept : Scoped D = kept_call dialect w local scope one around path name bang d (unmarked a) in
           let kept' : Forest → Scoped E = λ g. kept_call dialect v local' changed two (around_with f around) (path_with f path) (ident_with f name) (punct_with f bang) (delimiter_with f d) g in
-          let there : Forest → Forest → Scoped E = λ whole g.
-          at_call dialect v local' changed deep' (around_with f around) (path_with f path) (ident_with f name) (record { at = f name.span; whole = whole; argument = g }) (kept' g) in
-          let whole' : Forest → Forest = λ g. whole_call (path_with f path) (ident_with f name) (punct_with f bang) (delimiter_with f d) g in
-          let gone : Bool = takes_end dialect w local scope deep s around path name d (unmarked a) in
-          let gone' : Forest → Bool = λ g. takes_end dialect v local' changed deep' s (around_with f around) (path_with f path) (ident_with f name) (delimiter_with f d) g in
-          next-with (at_call dialect w local scope deep around path name site kept) (there (whole' (unmarked (marked_with f a))) (unmarked (marked_with f a)))
-          (λ here. search_trees dialect w local scope one deep (after_call gone s d.kind) here rest) (λ here. search_trees dialect v local' changed two deep' (after_call (gone' (unmarked (marked_with f a))) s d.kind) here (marked_with f rest))
+          let site' : Forest → CallSite = λ g. call_site (path_with f path) (ident_with f name) (punct_with f bang) (delimiter_with f d) g in
+          let there : CallSite → Scoped E → Scoped E = λ x k. at_call dialect v local' changed deep' (around_with f around) (path_with f path) (ident_with f name) x k in
+          let gone : Bool = takes_end dialect w local scope deep s around path name d site in
+          let gone' : CallSite → Bool = λ x. takes_end dialect v local' changed deep' s (around_with f around) (path_with f path) (ident_with f name) (delimiter_with f d) x in
+          let here : site' (unmarked (marked_with f a)) ≡ site_with f site = ap site' (unmarked-with f a) ∙ site-with path name bang d (unmarked a) in
+          next-with (at_call dialect w local scope deep around path name site kept) (there (site' (unmarked (marked_with f a))) (kept' (unmarked (marked_with f a))))
+          (λ here. search_trees dialect w local scope one deep (after_call gone s d.kind) here rest)
+          (λ here. search_trees dialect v local' changed two deep' (after_call (gone' (site' (unmarked (marked_with f a)))) s d.kind) here (marked_with f rest))
           around
-          (ap (λ g. there (whole' g) g) (unmarked-with f a)
-          ∙ ap (λ whole. there whole (map_spans f (unmarked a))) (in_front-with f path (leaf (as_leaf.Ident name) (leaf (as_leaf.Punct bang) (group d (unmarked a) empty))))
+          (ap (λ x. there x (kept' (unmarked (marked_with f a)))) here
+          ∙ ap (λ g. there (site_with f site) (kept' g)) (unmarked-with f a)
           ∙ call-with path name deep deep' deeper around site kept (kept' (map_spans f (unmarked a))) (kept-with around path name bang d (unmarked a)))
-          (λ here.
-          ap (λ (t : Bool). search_trees dialect v local' changed two deep' (after_call t s d.kind) (around_with f here) (marked_with f rest))
-          (ap gone' (unmarked-with f a) ∙ end-with s around path name d (unmarked a) deep deep' deeper)
-          ∙ trees-with (after_call gone s d.kind) here rest)
+          (λ back.
+          ap (λ (t : Bool). search_trees dialect v local' changed two deep' (after_call t s d.kind) (around_with f back) (marked_with f rest))
+          (ap gone' here ∙ end-with s around path name d deep deep' deeper site)
+          ∙ trees-with (after_call gone s d.kind) back rest)
 
       part-with : (around : Around) (p : Forest) (k : PieceKind)
           → search_piece dialect v local' changed two deep' (around_with f around) (map_spans f p) (kind_with f k)
@@ -322,7 +344,7 @@ module _ {D E : Type 0} (f : Span → Span) (h : D → E) where
           (ap (search_piece dialect v local' changed two deep' (around_with f around) (map_spans f p)) (kind_in-with f dialect around.standing p) ∙ part-with around p (kind_in dialect around.standing p))
           (λ here. parts_of-with here ps)
 
-    list-with : (deep : Option (Search D)) (deep' : Option (Search E)) → DeeperWith deep deep' → (n : ℕ)
+    pub list-with : (deep : Option (Expander D)) (deep' : Option (Expander E)) → DeeperWith deep deep' → (n : ℕ)
         → SameWith (search_list dialect w local scope deep n) (search_list dialect v local' changed deep' n)
     list-with deep deep' deeper zero around g = ap (λ (o : Outcome E). only o) (just-with f h around.outer [])
     list-with deep deep' deeper (suc n) around g =
@@ -335,5 +357,8 @@ module _ {D E : Type 0} (f : Span → Span) (h : D → E) where
         ap (λ k. search_list dialect v local' changed None (suc k) (around_with f around) (map_spans f g)) (size-map_spans f g)
         ∙ list-with None None tt (suc (size g)) around g
     scoped-with (suc n) around g =
-        ap (λ k. search_list dialect v local' changed (Some (scoped dialect v local' changed n)) (suc k) (around_with f around) (map_spans f g)) (size-map_spans f g)
-        ∙ list-with (Some (scoped dialect w local scope n)) (Some (scoped dialect v local' changed n)) (scoped-with n) (suc (size g)) around g
+        let one : Search D = scoped dialect w local scope n in
+        let two : Search E = scoped dialect v local' changed n in
+        let tries : Expander E = attempt dialect v local' changed two in
+        ap (λ k. search_list dialect v local' changed (Some tries) (suc k) (around_with f around) (map_spans f g)) (size-map_spans f g)
+        ∙ list-with (Some (attempt dialect w local scope one)) (Some tries) (attempt-with one two (scoped-with n)) (suc (size g)) around g

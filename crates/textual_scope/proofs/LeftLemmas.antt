@@ -1,7 +1,6 @@
 -- A list is searched from the left, tree by tree.
-use Rattle.std.proofs.Common.{◌≡◌, ◌≢◌, ◌⊎◌, inl, inr, ℕ, Bool, true, false, true-eqb, List, [], ◌∷◌, Option, Some, None, refl, sym, ap, ◌∙◌, subst, if◌then◌else◌}
+use Rattle.std.proofs.Common.{◌≡◌, ◌≢◌, ◌⊎◌, inl, inr, ℕ, Bool, true, false, true-eqb, List, [], ◌∷◌, Option, refl, sym, ap, ◌∙◌, subst, if◌then◌else◌}
 use Rattle.std.specs.Prelude.{◌&&◌, ◌||◌, codes, not}
-use Prim.Native.String.{String}
 use Rattle.std.proofs.lemmas.Bool.{and_parts}
 use Rattle.tt.specs.Glued.{is_alone}
 use Rattle.tt_data.specs.Forest.{Forest, empty, leaf, group, joined}
@@ -17,7 +16,7 @@ use Rattle.tt_data.specs.declared.delimiter.DelimiterKind.TheVariants.{Parenthes
 use Rattle.bridge.specs.Text.{is_char, is_punct, is_visible, same_kind}
 use Rattle.expander_model.specs.Calls.{Path, Marked, none, token, inside, call, bare, from_crate, other, in_front, is_bang_group, is_colons, is_root, mark_leaf, marked, unmarked}
 use Rattle.expander_model.specs.Definitions.{Definition}
-use Rattle.expander_model.specs.Expansion.{World, just, whole_call}
+use Rattle.expander_model.specs.Expansion.{World, just}
 use Rattle.expander_model.specs.PieceStates.{after_call, after_group, after_ident, after_leaf, after_literal, after_name, begun_with, by_word, is_at_start, is_item_word, is_qualifier}
 use Rattle.expander_model.specs.Pieces.{cut, cut_from, ends_piece, is_pound_bang}
 use Rattle.expander_model.specs.declared.begun.Begun.{Begun}
@@ -25,7 +24,7 @@ use Rattle.expander_model.specs.declared.begun.Begun.TheVariants.{Nothing, Pound
 use Rattle.expander_model.specs.declared.dialect.Dialect.{Dialect}
 use Rattle.small_grammar.specs.Text.{has_text}
 use Rattle.textual_scope.specs.FromLeft.{is_begun, piece_ahead, with_leaf, with_group, AreOfCall, pieces_left, trees_left, left_after}
-use Rattle.expander_model.specs.Scoping.{Around, Scoped, Search, in_group, only, and_next, in_brackets, defined, out_piece, definition_piece, plain_piece, kind_in, at_call, kept_call, found_at, is_expanded, is_items, takes_end, search_leaf, search_trees, search_piece, search_pieces}
+use Rattle.expander_model.specs.Scoping.{Around, Scoped, Search, Expander, call_site, in_group, only, and_next, in_brackets, defined, out_piece, definition_piece, plain_piece, kind_in, at_call, kept_call, found_at, is_replaced, is_items, takes_end, search_leaf, search_trees, search_piece, search_pieces}
 use Rattle.textual_scope.proofs.ChainLemmas.{chain, IsShut, IsEnd, end_leaf, end_at_leaf, end_at_group, end_behind, leaf_chain, shut_leaf}
 use Rattle.textual_scope.proofs.MarkLemmas.{unmarked-marked}
 use Rattle.textual_scope.proofs.ResultLemmas.{nothing_and, and_next_assoc, and_nothing}
@@ -567,7 +566,7 @@ token_ahead l p (inr e) h =
 
 -- ---- the search, tree by tree
 
-module _ {D : Type 0} (dialect : Dialect) (world : World D) (local : Definition → D) (scope : List ℕ → Option D) (search : Search D) (deeper : Option (Search D)) where
+module _ {D : Type 0} (dialect : Dialect) (world : World D) (local : Definition → D) (scope : List ℕ → Option D) (search : Search D) (deeper : Option (Expander D)) where
   abbrev trees : Begun → Around → Marked → Scoped D
   trees s around m = search_trees dialect world local scope search deeper s around m
 
@@ -796,24 +795,24 @@ module _ (s : Begun) (k : DelimiterKind) where
   call_goes_on true h n = refl
   call_goes_on false h n = late_group (after_name s) k late_name n
 
-module _ {D : Type 0} (dialect : Dialect) (world : World D) (local : Definition → D) (scope : List ℕ → Option D) (search : Search D) (deeper : Option (Search D)) where
+module _ {D : Type 0} (dialect : Dialect) (world : World D) (local : Definition → D) (scope : List ℕ → Option D) (search : Search D) (deeper : Option (Expander D)) where
   -- a call whose argument is this
   abbrev pub called : Around → Path → Ident → Punct → Delimiter → Forest → Scoped D
   called around path name bang d argument =
       at_call dialect world local scope deeper around path name
-      (record { at = name.span; whole = whole_call path name bang d argument; argument = argument })
+      (call_site path name bang d argument)
       (kept_call dialect world local scope search around path name bang d argument)
 
   -- what came of the piece once that call follows
-  abbrev pub behind_it : Begun → Around → Path → Ident → Delimiter → Forest → Begun
-  behind_it s around path name d argument =
-      after_call (takes_end dialect world local scope deeper s around path name d argument) s d.kind
+  abbrev pub behind_it : Begun → Around → Path → Ident → Punct → Delimiter → Forest → Begun
+  behind_it s around path name bang d argument =
+      after_call (takes_end dialect world local scope deeper s around path name d (call_site path name bang d argument)) s d.kind
 
   -- a call, or what would be one but for the `::` before it
   pub at_a_call : (s : Begun) (around : Around) (path : Path) (name : Ident) (bang : Punct) (d : Delimiter) (inner rest : Forest) → AreOfCall path bang d
       → trees_left dialect world local scope search deeper s around (call_before name bang d inner path rest)
       ≡ and_next (called around path name bang d inner)
-      (λ here. left_after dialect world local scope search deeper (behind_it s around path name d inner) here rest) around
+      (λ here. left_after dialect world local scope search deeper (behind_it s around path name bang d inner) here rest) around
   at_a_call s around path name bang d inner rest h =
       ap (λ (p : Forest × Forest). and_next (search_trees dialect world local scope search deeper s around (marked p.0)) (λ here. pieces_left dialect world local scope search deeper here p.1) around)
       (ahead-call name bang d inner path s rest h)
@@ -823,7 +822,7 @@ module _ {D : Type 0} (dialect : Dialect) (world : World D) (local : Definition 
       t = after_group Other d.kind
 
       u : Forest → Begun
-      u argument = behind_it s around path name d argument
+      u argument = behind_it s around path name bang d argument
 
       here_left : Begun → Around → Scoped D
       here_left x here = left_after dialect world local scope search deeper x here rest
@@ -842,8 +841,8 @@ module _ {D : Type 0} (dialect : Dialect) (world : World D) (local : Definition 
           by_kind Parenthesis e = absurd (cc e)
           by_kind Invisible e = absurd (cc e)
 
-      no_braces : (argument : Forest) → takes_end dialect world local scope deeper s around path name d argument ≡ true → same_kind d.kind Brace ≡ false
-      no_braces argument e = alone (is_expanded dialect world local scope deeper (found_at dialect world local scope around path name) argument) e
+      no_braces : (argument : Forest) → takes_end dialect world local scope deeper s around path name d (call_site path name bang d argument) ≡ true → same_kind d.kind Brace ≡ false
+      no_braces argument e = alone (is_replaced dialect world local scope deeper (found_at dialect world local scope around path name) around (call_site path name bang d argument)) e
         where
           stands : Bool
           stands = dialect.items && (is_items around.standing && (is_at_start s && not (same_kind d.kind Brace)))
@@ -856,7 +855,7 @@ module _ {D : Type 0} (dialect : Dialect) (world : World D) (local : Definition 
           → and_next (search_trees dialect world local scope search deeper s around (marked piece.0)) (λ here. pieces_left dialect world local scope search deeper here piece.1) around
           ≡ and_next (called around path name bang d inner) (λ here. here_left (u inner) here) around
       go true e =
-          let ends = braces e (takes_end dialect world local scope deeper s around path name d inner) (no_braces inner) in
+          let ends = braces e (takes_end dialect world local scope deeper s around path name d (call_site path name bang d inner)) (no_braces inner) in
           ap (λ (p : Forest × Forest). and_next (search_trees dialect world local scope search deeper s around (marked p.0)) (λ here. pieces_left dialect world local scope search deeper here p.1) around)
           (ap (in_call name bang d inner path) (by_false (is_begun t) (with_group d inner (piece_ahead t rest)) (group d inner empty, rest) (ap is_begun ends.1)))
           ∙ ap (λ (x : Scoped D). and_next x (λ here. pieces_left dialect world local scope search deeper here rest) around)
@@ -866,7 +865,7 @@ module _ {D : Type 0} (dialect : Dialect) (world : World D) (local : Definition 
           ∙ ap (λ x. and_next (called around path name bang d inner) (λ here. here_left x here) around) (sym ends.0)
       go false e =
           let p : Forest × Forest = piece_ahead t rest in
-          let late : is_late (u inner) ≡ true = call_goes_on s d.kind (takes_end dialect world local scope deeper s around path name d inner) (no_braces inner) e in
+          let late : is_late (u inner) ≡ true = call_goes_on s d.kind (takes_end dialect world local scope deeper s around path name d (call_site path name bang d inner)) (no_braces inner) e in
           let same : p ≡ piece_ahead (u inner) rest = late_ahead rest t (u inner) (late_group Other d.kind refl e) late in
           let f : Forest → Around → Scoped D = λ argument here. search_trees dialect world local scope search deeper (u argument) here (marked p.0) in
           let g : Around → Scoped D = λ here. pieces_left dialect world local scope search deeper here p.1 in

@@ -17,6 +17,7 @@ mod ConditionLemmas
 mod TextRows
 mod ConditionRows
 mod LimitLemmas
-mod NoteLemmas
+pub mod NoteLemmas
 mod RefusalLemmas
+pub mod BoundedLemmas
 mod LimitRows

@@ -2,7 +2,7 @@
 use Rattle.std.proofs.Common.{◌≡◌, ◌≤◌, ◌-◌, ℕ, Bool, true, false, List, [], ◌∷◌, Option, Some, None, refl, arith, option_map, if◌then◌else◌}
 use Rattle.std.specs.Prelude.{◌||◌, nat_eq, nat_lt}
 use Rattle.std.proofs.lemmas.Bool.Decides.{nat_tests}
-use Rattle.textual_scope.specs.Limits.{Noted, definition, result, until_passed}
+use Rattle.textual_scope.specs.Limits.{Noted, definition, result, burst, until_passed}
 
 none_before : {X Y : Type 0} → (g : X → Y) (o : Option X) → option_map g o ≡ None → o ≡ None
 none_before g None e = refl
@@ -28,6 +28,7 @@ fewer calls more tokens larger n h k e = grind (arith, nat_tests)
 pub within_more : {D : Type 0} → (notes : List (List ℕ × Option (Noted D))) (calls more tokens larger : ℕ) → calls ≤ more → tokens ≤ larger
     → until_passed calls tokens notes ≡ None → until_passed more larger notes ≡ None
 within_more [] calls more tokens larger h k e = refl
+within_more ((key, Some burst) ∷ notes) calls more tokens larger h k e = absurd (cc e)
 within_more ((key, Some (result n)) ∷ notes) calls more tokens larger h k e =
     let parts = not_passed (nat_eq calls 0 || nat_lt tokens n) [] (until_passed (calls - 1) (tokens - n) notes) e in
     passes_none (nat_eq more 0 || nat_lt larger n) [] (until_passed (more - 1) (larger - n) notes)

@@ -1,6 +1,6 @@
 -- An expansion with its notes is the expansion.
 use Rattle.std.proofs.Common.{◌≡◌, ℕ, zero, suc, Bool, true, false, List, [], ◌∷◌, ◌++◌, Option, Some, None, refl, ap, ◌∙◌, unwrap_or, option_map, if◌then◌else◌}
-use Rattle.std.specs.Prelude.{◌&&◌}
+use Rattle.std.specs.Prelude.{◌&&◌, not, is_some}
 use Rattle.tt_data.specs.Forest.{Forest, size}
 use Rattle.tt_data.specs.Walk.{Step, walk}
 use Rattle.tt_data.specs.declared.span.Span.{Span}
@@ -11,19 +11,20 @@ use Rattle.expander_model.specs.Calls.{Path, bare, from_crate, other, Marked, no
 use Rattle.expander_model.specs.Definitions.{Definition, nearest}
 use Rattle.cfg_options.specs.Conditions.{or_else}
 use Rattle.expander_model.specs.Pieces.{cut}
-use Rattle.expander_model.specs.Expansion.{World, CallSite, just, followed_by, grouped, faulted, found, bursting, before_group, whole_call}
+use Rattle.expander_model.specs.Expansion.{World, CallSite, just, followed_by, grouped, faulted, found, bursting, before_group}
 use Rattle.expander_model.specs.PieceStates.{after_call, after_group, after_leaf}
 use Rattle.expander_model.specs.declared.begun.Begun.{Begun}
 use Rattle.expander_model.specs.declared.begun.Begun.TheVariants.{Nothing}
 use Rattle.expander_model.specs.declared.dialect.Dialect.{Dialect}
-use Rattle.textual_scope.specs.Limits.{Noted, definition, result, looked_in, unnoted, noted_world, noting, noted_list, noted}
+use Rattle.textual_scope.specs.Limits.{Noted, definition, result, burst, looked_in, unnoted, note_of, noting, noted_world, noted_list, plain_attempt, noted_attempt, noted}
 use Rattle.expander_model.specs.declared.scope_rules.Standing.TheVariants.{Argument}
-use Rattle.expander_model.specs.Scoping.{Around, Scoped, Search, PieceKind, out_piece, definition_piece, plain_piece, kind_in, in_group, behind, only, and_next, in_brackets, is_left_out, defined, fitted, at_level, unbroken, looked_up, at_key, at_call, search_leaf, found_at, is_expanded, is_alone_in, takes_end, search_trees, search_piece, search_pieces, search_list, scoped}
+use Rattle.expander_model.specs.Scoping.{call_site, Around, Scoped, Search, Expander, Attempt, attempt, PieceKind, out_piece, definition_piece, plain_piece, kind_in, in_group, behind, only, and_next, in_brackets, is_left_out, defined, fitted, at_level, unbroken, looked_up, at_key, at_call, search_leaf, found_at, is_replaced, is_alone_in, takes_end, search_trees, search_piece, search_pieces, search_list, scoped}
 use Rattle.textual_scope.proofs.ResultLemmas.{same_next}
 
 module _ {D : Type 0} where
-  looked_in-append : (xs ys : List (List ℕ × Option (Noted D))) → looked_in (xs ++ ys) ≡ looked_in xs ++ looked_in ys
+  pub looked_in-append : (xs ys : List (List ℕ × Option (Noted D))) → looked_in (xs ++ ys) ≡ looked_in xs ++ looked_in ys
   looked_in-append [] ys = refl
+  looked_in-append ((key, Some burst) ∷ xs) ys = looked_in-append xs ys
   looked_in-append ((key, Some (result n)) ∷ xs) ys = looked_in-append xs ys
   looked_in-append ((key, Some (definition d)) ∷ xs) ys = ap (λ fs. (key, Some d) ∷ fs) (looked_in-append xs ys)
   looked_in-append ((key, None) ∷ xs) ys = ap (λ fs. (key, None) ∷ fs) (looked_in-append xs ys)
@@ -47,9 +48,16 @@ module _ {D : Type 0} where
   abbrev SameNoted : Search (Noted D) → Search D → Type 0
   SameNoted one two = (around : Around) (f : Forest) → unnoted (one around f) ≡ two around f
 
-  abbrev SameDeeper : Option (Search (Noted D)) → Option (Search D) → Type 0
+  -- an attempt at a call, without its notes
+  abbrev pub without_notes : Attempt (Noted D) → Attempt D
+  without_notes a = record { replaces = a.replaces; given = unnoted a.given }
+
+  abbrev SameFrom : Expander (Noted D) → Expander D → Type 0
+  SameFrom one two = (d : D) (around : Around) (site : CallSite) → without_notes (one (definition d) around site) ≡ two d around site
+
+  abbrev SameDeeper : Option (Expander (Noted D)) → Option (Expander D) → Type 0
   SameDeeper None None = Unit {0}
-  SameDeeper (Some one) (Some two) = SameNoted one two
+  SameDeeper (Some one) (Some two) = SameFrom one two
   SameDeeper None (Some two) = ⊥
   SameDeeper (Some one) None = ⊥
 
@@ -57,6 +65,12 @@ module _ {D : Type 0} where
       → unnoted (record a { outcome = found key (option_map definition r) a.outcome }) ≡ record b { outcome = found key r b.outcome }
   unnoted-found key None a b e = ap (λ (x : Scoped D). record x { outcome = found key None x.outcome }) e
   unnoted-found key (Some d) a b e = ap (λ (x : Scoped D). record x { outcome = found key (Some d) x.outcome }) e
+
+  -- a note before a result
+  unnoted-noting : (b : Bool) (r : Option Forest) (a : Scoped (Noted D)) → unnoted (noting (note_of b r) a) ≡ unnoted a
+  unnoted-noting true r a = refl
+  unnoted-noting false None a = refl
+  unnoted-noting false (Some f) a = refl
 
   told : (b : Bool) (outer : Option Span) (place : Span) (steps : List Step) (ds : List Definition)
       → (let a : Scoped (Noted D) = record { outcome = if b then faulted BrokenDefinition place (just outer steps) else just outer steps; defines = ds } in unnoted a)
@@ -83,26 +97,36 @@ module _ {D : Type 0} (dialect : Dialect) (world : World D) (local : Definition 
   unnoted-fitted one two same around site None = refl
   unnoted-fitted one two same around site (Some g) = same (record around { outer = Some (unwrap_or around.outer site.at) }) g
 
-  unnoted-level : (d : D) (one : Option (Search (Noted D))) (two : Option (Search D)) → SameDeeper one two → (around : Around) (site : CallSite)
+  unnoted-attempt : (one : Search (Noted D)) (two : Search D) → SameNoted one two → SameFrom (plain_attempt dialect world local scope one) (attempt dialect world local scope two)
+  unnoted-attempt one two same d around site =
+      ap (λ (a : Scoped D). record { replaces = is_some (world.fit d site.argument); given = record a { outcome = bursting (world.bursts d site.argument) a.outcome } })
+      (unnoted-fitted one two same around site (world.fit d site.argument))
+
+  pub unnoted-tried : (one : Search (Noted D)) (two : Search D) → SameNoted one two → SameFrom (noted_attempt dialect world local scope one) (attempt dialect world local scope two)
+  unnoted-tried one two same d around site =
+      let a : Attempt (Noted D) = plain_attempt dialect world local scope one (definition d) around site in
+      ap (λ (x : Scoped D). record { replaces = a.replaces; given = x }) (unnoted-noting (world.bursts d site.argument) (world.fit d site.argument) a.given)
+      ∙ unnoted-attempt one two same d around site
+
+  unnoted-level : (d : D) (one : Option (Expander (Noted D))) (two : Option (Expander D)) → SameDeeper one two → (around : Around) (site : CallSite)
       → unnoted (at_level dialect world' local' scope' (definition d) one around site) ≡ at_level dialect world local scope d two around site
   unnoted-level d None None same around site = refl
-  unnoted-level d (Some one) (Some two) same around site =
-      ap (λ (a : Scoped D). record a { outcome = bursting (world.bursts d site.argument) a.outcome }) (unnoted-fitted one two same around site (world.fit d site.argument))
+  unnoted-level d (Some one) (Some two) same around site = ap (λ (a : Attempt D). a.given) (same d around site)
   unnoted-level d None (Some two) same around site = absurd same
   unnoted-level d (Some one) None same around site = absurd same
 
-  unnoted-unbroken : (d : D) (b : Bool) (one : Option (Search (Noted D))) (two : Option (Search D)) → SameDeeper one two → (around : Around) (site : CallSite)
+  unnoted-unbroken : (d : D) (b : Bool) (one : Option (Expander (Noted D))) (two : Option (Expander D)) → SameDeeper one two → (around : Around) (site : CallSite)
       → unnoted (unbroken dialect world' local' scope' (definition d) b one around site) ≡ unbroken dialect world local scope d b two around site
   unnoted-unbroken d true one two same around site = refl
   unnoted-unbroken d false one two same around site = unnoted-level d one two same around site
 
-  unnoted-looked_up : (r : Option D) (one : Option (Search (Noted D))) (two : Option (Search D)) → SameDeeper one two → (around : Around) (site : CallSite)
+  unnoted-looked_up : (r : Option D) (one : Option (Expander (Noted D))) (two : Option (Expander D)) → SameDeeper one two → (around : Around) (site : CallSite)
       → (kept : Scoped (Noted D)) (kept' : Scoped D) → unnoted kept ≡ kept'
       → unnoted (looked_up dialect world' local' scope' (option_map definition r) one around site kept) ≡ looked_up dialect world local scope r two around site kept'
   unnoted-looked_up None one two same around site kept kept' e = e
   unnoted-looked_up (Some d) one two same around site kept kept' e = unnoted-unbroken d (world.broken d) one two same around site
 
-  unnoted-key : (r : Option Definition) (key : List ℕ) (one : Option (Search (Noted D))) (two : Option (Search D)) → SameDeeper one two → (around : Around) (site : CallSite)
+  unnoted-key : (r : Option Definition) (key : List ℕ) (one : Option (Expander (Noted D))) (two : Option (Expander D)) → SameDeeper one two → (around : Around) (site : CallSite)
       → (kept : Scoped (Noted D)) (kept' : Scoped D) → unnoted kept ≡ kept'
       → unnoted (at_key dialect world' local' scope' r key one around site kept) ≡ at_key dialect world local scope r key two around site kept'
   unnoted-key (Some d) key one two same around site kept kept' e = unnoted-looked_up (Some (local d)) one two same around site kept kept' e
@@ -110,7 +134,7 @@ module _ {D : Type 0} (dialect : Dialect) (world : World D) (local : Definition 
       unnoted-found key (scope key) (looked_up dialect world' local' scope' (scope' key) one around site kept) (looked_up dialect world local scope (scope key) two around site kept')
       (unnoted-looked_up (scope key) one two same around site kept kept' e)
 
-  unnoted-call : (path : Path) (name : Ident) (one : Option (Search (Noted D))) (two : Option (Search D)) → SameDeeper one two → (around : Around) (site : CallSite)
+  unnoted-call : (path : Path) (name : Ident) (one : Option (Expander (Noted D))) (two : Option (Expander D)) → SameDeeper one two → (around : Around) (site : CallSite)
       → (kept : Scoped (Noted D)) (kept' : Scoped D) → unnoted kept ≡ kept'
       → unnoted (at_call dialect world' local' scope' one around path name site kept) ≡ at_call dialect world local scope two around path name site kept'
   unnoted-call bare name one two same around site kept kept' e = unnoted-key (nearest around.locals name.sym) name.sym one two same around site kept kept' e
@@ -128,23 +152,23 @@ module _ {D : Type 0} (dialect : Dialect) (world : World D) (local : Definition 
   unnoted-found_at around (from_crate root p q) name = refl
   unnoted-found_at around (other p q) name = refl
 
-  unnoted-expanded : (one : Option (Search (Noted D))) (two : Option (Search D)) → SameDeeper one two → (r : Option D) (argument : Forest)
-      → is_expanded dialect world' local' scope' one (option_map definition r) argument ≡ is_expanded dialect world local scope two r argument
-  unnoted-expanded None None same r argument = refl
-  unnoted-expanded (Some one) (Some two) same None argument = refl
-  unnoted-expanded (Some one) (Some two) same (Some d) argument = refl
-  unnoted-expanded None (Some two) same r argument = absurd same
-  unnoted-expanded (Some one) None same r argument = absurd same
+  unnoted-replaced : (one : Option (Expander (Noted D))) (two : Option (Expander D)) → SameDeeper one two → (r : Option D) (around : Around) (site : CallSite)
+      → is_replaced dialect world' local' scope' one (option_map definition r) around site ≡ is_replaced dialect world local scope two r around site
+  unnoted-replaced None None same r around site = refl
+  unnoted-replaced (Some one) (Some two) same None around site = refl
+  unnoted-replaced (Some one) (Some two) same (Some d) around site = ap (λ (a : Attempt D). not (world.broken d) && a.replaces) (same d around site)
+  unnoted-replaced None (Some two) same r around site = absurd same
+  unnoted-replaced (Some one) None same r around site = absurd same
 
   -- whether a `;` goes with the call
-  unnoted-end : (s : Begun) (around : Around) (path : Path) (name : Ident) (d : Delimiter) (argument : Forest) (one : Option (Search (Noted D))) (two : Option (Search D)) → SameDeeper one two
-      → takes_end dialect world' local' scope' one s around path name d argument ≡ takes_end dialect world local scope two s around path name d argument
-  unnoted-end s around path name d argument one two same =
+  unnoted-end : (s : Begun) (around : Around) (path : Path) (name : Ident) (d : Delimiter) (site : CallSite) (one : Option (Expander (Noted D))) (two : Option (Expander D)) → SameDeeper one two
+      → takes_end dialect world' local' scope' one s around path name d site ≡ takes_end dialect world local scope two s around path name d site
+  unnoted-end s around path name d site one two same =
       let alone : Bool = is_alone_in dialect s around.standing d in
-      ap (λ (r : Option (Noted D)). alone && is_expanded dialect world' local' scope' one r argument) (unnoted-found_at around path name)
-      ∙ ap (λ (b : Bool). alone && b) (unnoted-expanded one two same (found_at dialect world local scope around path name) argument)
+      ap (λ (r : Option (Noted D)). alone && is_replaced dialect world' local' scope' one r around site) (unnoted-found_at around path name)
+      ∙ ap (λ (b : Bool). alone && b) (unnoted-replaced one two same (found_at dialect world local scope around path name) around site)
 
-  module _ (one : Search (Noted D)) (two : Search D) (same : SameNoted one two) (deep : Option (Search (Noted D))) (deep' : Option (Search D)) (deeper : SameDeeper deep deep') where
+  module _ (one : Search (Noted D)) (two : Search D) (same : SameNoted one two) (deep : Option (Expander (Noted D))) (deep' : Option (Expander D)) (deeper : SameDeeper deep deep') where
     unnoted-trees : (s : Begun) (around : Around) (m : Marked) → unnoted (search_trees dialect world' local' scope' one deep s around m) ≡ search_trees dialect world local scope two deep' s around m
     unnoted-trees s around none = refl
     unnoted-trees s around (token l rest) =
@@ -157,14 +181,14 @@ module _ {D : Type 0} (dialect : Dialect) (world : World D) (local : Definition 
         (λ here. search_trees dialect world' local' scope' one deep (after_group s d.kind) here rest) (λ here. search_trees dialect world local scope two deep' (after_group s d.kind) here rest)
         around (ap (in_brackets around.outer d) (same inner (unmarked a))) (λ here. unnoted-trees (after_group s d.kind) here rest)
     unnoted-trees s around (call path name bang d a rest) =
-        let site : CallSite = record { at = name.span; whole = whole_call path name bang d (unmarked a); argument = unmarked a } in
+        let site : CallSite = call_site path name bang d (unmarked a) in
         let inner : Around = record around { standing = Argument } in
         let kept : Scoped (Noted D) = only (followed_by (just around.outer (walk (before_group path name bang))) (grouped around.outer d (one inner (unmarked a)).outcome)) in
         let kept' : Scoped D = only (followed_by (just around.outer (walk (before_group path name bang))) (grouped around.outer d (two inner (unmarked a)).outcome)) in
-        let gone : Bool = takes_end dialect world local scope deep' s around path name d (unmarked a) in
+        let gone : Bool = takes_end dialect world local scope deep' s around path name d site in
         let next : Bool → Around → Scoped (Noted D) = λ t here. search_trees dialect world' local' scope' one deep (after_call t s d.kind) here rest in
         ap (λ (t : Bool). unnoted (and_next (at_call dialect world' local' scope' deep around path name site kept) (next t) around))
-        (unnoted-end s around path name d (unmarked a) deep deep' deeper)
+        (unnoted-end s around path name d site deep deep' deeper)
         ∙ unnoted-next (at_call dialect world' local' scope' deep around path name site kept) (at_call dialect world local scope deep' around path name site kept')
         (next gone) (λ here. search_trees dialect world local scope two deep' (after_call gone s d.kind) here rest)
         around
@@ -185,7 +209,7 @@ module _ {D : Type 0} (dialect : Dialect) (world : World D) (local : Definition 
         (λ here. search_pieces dialect world' local' scope' one deep here ps) (λ here. search_pieces dialect world local scope two deep' here ps)
         around (unnoted-part around p (kind_in dialect around.standing p)) (λ here. unnoted-parts here ps)
 
-  unnoted-list : (deep : Option (Search (Noted D))) (deep' : Option (Search D)) → SameDeeper deep deep' → (n : ℕ)
+  unnoted-list : (deep : Option (Expander (Noted D))) (deep' : Option (Expander D)) → SameDeeper deep deep' → (n : ℕ)
       → SameNoted (noted_list dialect world local scope deep n) (search_list dialect world local scope deep' n)
   unnoted-list deep deep' deeper zero around f = refl
   unnoted-list deep deep' deeper (suc n) around f =
@@ -194,4 +218,7 @@ module _ {D : Type 0} (dialect : Dialect) (world : World D) (local : Definition 
   pub unnoted-noted : (n : ℕ) → SameNoted (noted dialect world local scope n) (scoped dialect world local scope n)
   unnoted-noted zero around f = unnoted-list None None tt (suc (size f)) around f
   unnoted-noted (suc n) around f =
-      unnoted-list (Some (noting (noted dialect world local scope n))) (Some (scoped dialect world local scope n)) (λ here g. unnoted-noted n here g) (suc (size f)) around f
+      let one : Search (Noted D) = noted dialect world local scope n in
+      let two : Search D = scoped dialect world local scope n in
+      unnoted-list (Some (noted_attempt dialect world local scope one)) (Some (attempt dialect world local scope two))
+      (unnoted-tried one two (λ here g. unnoted-noted n here g)) (suc (size f)) around f

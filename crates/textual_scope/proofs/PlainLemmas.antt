@@ -1,6 +1,6 @@
 -- Where no list has a definition, a search is an expansion, and defines nothing.
 use Rattle.std.proofs.Common.{◌≡◌, ◌⊎◌, inl, inr, ℕ, zero, suc, ◌<◌, ◌≤◌, Bool, true, false, List, [], ◌∷◌, Option, Some, None, refl, ap, ◌∙◌, arith, unwrap_or, if◌then◌else◌}
-use Rattle.std.specs.Prelude.{◌&&◌}
+use Rattle.std.specs.Prelude.{◌&&◌, option_map}
 use Rattle.tt_data.specs.Forest.{Forest, size}
 use Rattle.tt_data.specs.Walk.{at_leaf, walk}
 use Rattle.tt_data.specs.declared.delimiter.Delimiter.{Delimiter}
@@ -19,7 +19,7 @@ use Rattle.expander_model.specs.declared.dialect.Dialect.{Dialect}
 use Rattle.expander_model.specs.declared.scope_rules.ScopeRules.{ScopeRules}
 use Rattle.expander_model.specs.declared.scope_rules.Standing.TheVariants.{Argument}
 use Rattle.expander_model.specs.declared.scope_rules.Standing.{Standing}
-use Rattle.expander_model.specs.Scoping.{without_locals, Scoped, Search, PieceKind, out_piece, definition_piece, plain_piece, definition_in, is_out, kind_of, kind_in, found_at, in_group, is_alone_in, is_expanded, only, in_brackets, fitted, at_level, unbroken, looked_up, at_key, at_call, search_leaf, takes_end, search_trees, search_piece, search_pieces, search_list, scoped}
+use Rattle.expander_model.specs.Scoping.{call_site, without_locals, Scoped, Search, Expander, attempt, PieceKind, out_piece, definition_piece, plain_piece, definition_in, is_out, kind_of, kind_in, found_at, in_group, is_alone_in, is_replaced, only, in_brackets, fitted, at_level, unbroken, looked_up, at_key, at_call, search_leaf, takes_end, search_trees, search_piece, search_pieces, search_list, scoped}
 use Rattle.textual_scope.proofs.ChainLemmas.{each, piece_by_piece}
 use Rattle.textual_scope.proofs.MarkLemmas.{AllInside, IsBelow, inside_marked}
 use Rattle.textual_scope.proofs.ResultLemmas.{same_next}
@@ -59,6 +59,10 @@ module _ {D : Type 0} (dialect : Dialect) (world : World D) (local : Definition 
   SameDeeper None (Some deeper) = ⊥
   SameDeeper (Some search) None = ⊥
 
+  -- calls whose results are searched so, or none
+  abbrev tried : Option (Search D) → Option (Expander D)
+  tried = option_map (attempt dialect world local scope)
+
   module _ (standing : Standing) (outer : Option Span) (site : CallSite) (plain : Plain site.argument) where
     fits : (search : Search D) (deeper : Option Span → Forest → Outcome D) → Same search deeper → (r : Option Forest) → ((g : Forest) → r ≡ Some g → Plain g)
         → fitted dialect world local scope search (without_locals standing outer) site r ≡ only (expanding.fitted deeper outer site r)
@@ -66,7 +70,7 @@ module _ {D : Type 0} (dialect : Dialect) (world : World D) (local : Definition 
     fits search deeper same (Some g) h = same standing (Some (unwrap_or outer site.at)) g (h g refl)
 
     levels : (d : D) (search : Option (Search D)) (deeper : Deeper D) → SameDeeper search deeper → ((g : Forest) → world.fit d site.argument ≡ Some g → Plain g)
-        → at_level dialect world local scope d search (without_locals standing outer) site ≡ only (expanding.at_level world d deeper outer site)
+        → at_level dialect world local scope d (tried search) (without_locals standing outer) site ≡ only (expanding.at_level world d deeper outer site)
     levels d None None same h = refl
     levels d (Some search) (Some deeper) same h =
         ap (λ (a : Scoped D). record a { outcome = bursting (world.bursts d site.argument) a.outcome }) (fits search deeper same (world.fit d site.argument) h)
@@ -74,50 +78,50 @@ module _ {D : Type 0} (dialect : Dialect) (world : World D) (local : Definition 
     levels d (Some search) None same h = absurd same
 
     valid : (d : D) (b : Bool) (search : Option (Search D)) (deeper : Deeper D) → SameDeeper search deeper → ((g : Forest) → world.fit d site.argument ≡ Some g → Plain g)
-        → unbroken dialect world local scope d b search (without_locals standing outer) site ≡ only (expanding.unbroken world d b deeper outer site)
+        → unbroken dialect world local scope d b (tried search) (without_locals standing outer) site ≡ only (expanding.unbroken world d b deeper outer site)
     valid d true search deeper same h = refl
     valid d false search deeper same h = levels d search deeper same h
 
     looks : (r : Option D) (search : Option (Search D)) (deeper : Deeper D) → SameDeeper search deeper
         → ((d : D) → r ≡ Some d → (g : Forest) → world.fit d site.argument ≡ Some g → Plain g) → (kept : Outcome D)
-        → looked_up dialect world local scope r search (without_locals standing outer) site (only kept) ≡ only (expanding.looked_up world r deeper outer site kept)
+        → looked_up dialect world local scope r (tried search) (without_locals standing outer) site (only kept) ≡ only (expanding.looked_up world r deeper outer site kept)
     looks None search deeper same h kept = refl
     looks (Some d) search deeper same h kept = valid d (world.broken d) search deeper same (h d refl)
 
     keyed : (key : List ℕ) (search : Option (Search D)) (deeper : Deeper D) → SameDeeper search deeper → (kept : Outcome D)
-        → at_key dialect world local scope None key search (without_locals standing outer) site (only kept)
+        → at_key dialect world local scope None key (tried search) (without_locals standing outer) site (only kept)
         ≡ only (found key (scope key) (expanding.looked_up world (scope key) deeper outer site kept))
     keyed key search deeper same kept =
         ap (λ (a : Scoped D). record a { outcome = found key (scope key) a.outcome })
         (looks (scope key) search deeper same (λ d e g fit. has.results key d e site.argument g plain fit) kept)
 
     calls : (path : Path) (name : Ident) (search : Option (Search D)) (deeper : Deeper D) → SameDeeper search deeper → (kept : Outcome D)
-        → at_call dialect world local scope search (without_locals standing outer) path name site (only kept)
+        → at_call dialect world local scope (tried search) (without_locals standing outer) path name site (only kept)
         ≡ only (expanding.at_call world scope deeper outer path name site kept)
     calls bare name search deeper same kept = keyed name.sym search deeper same kept
     calls (from_crate root p q) name search deeper same kept = keyed (key_of (from_crate root p q) name) search deeper same kept
     calls (other p q) name search deeper same kept = refl
 
-  module _ (deeper : Option (Search D)) (s : Begun) (standing : Standing) (outer : Option Span) (path : Path) (name : Ident) (d : Delimiter) (argument : Forest) where
+  module _ (deeper : Option (Expander D)) (s : Begun) (standing : Standing) (outer : Option Span) (path : Path) (name : Ident) (d : Delimiter) (site : CallSite) where
     found_none : ((key : List ℕ) → scope key ≡ None) → (p : Path) → found_at dialect world local scope (without_locals standing outer) p name ≡ None
     found_none nothing bare = nothing name.sym
     found_none nothing (from_crate root p q) = nothing (key_of (from_crate root p q) name)
     found_none nothing (other p q) = refl
 
-    none_expanded : (o : Option (Search D)) → is_expanded dialect world local scope o None argument ≡ false
-    none_expanded None = refl
-    none_expanded (Some search) = refl
+    none_replaced : (o : Option (Expander D)) → is_replaced dialect world local scope o None (without_locals standing outer) site ≡ false
+    none_replaced None = refl
+    none_replaced (Some expand) = refl
 
     and_false : (b : Bool) → (b && false) ≡ false
     and_false true = refl
     and_false false = refl
 
-    takes_none : KeepsEnds dialect scope → takes_end dialect world local scope deeper s (without_locals standing outer) path name d argument ≡ false
+    takes_none : KeepsEnds dialect scope → takes_end dialect world local scope deeper s (without_locals standing outer) path name d site ≡ false
     takes_none (inl e) = rw e refl
     takes_none (inr nothing) =
         let alone : Bool = is_alone_in dialect s standing d in
-        ap (λ x. alone && is_expanded dialect world local scope deeper x argument) (found_none nothing path)
-        ∙ ap (λ b. alone && b) (none_expanded deeper) ∙ and_false alone
+        ap (λ x. alone && is_replaced dialect world local scope deeper x (without_locals standing outer) site) (found_none nothing path)
+        ∙ ap (λ b. alone && b) (none_replaced deeper) ∙ and_false alone
 
   hides : (b : Bool) → (let none : List Definition = [] in if b then none else none) ≡ []
   hides true = refl
@@ -140,57 +144,57 @@ module _ {D : Type 0} (dialect : Dialect) (world : World D) (local : Definition 
       held standing outer a h plain = below standing outer (unmarked a) h.less plain ∙ ap (λ m. only (expands outer m)) h.same
 
       trees : (s : Begun) → IsShown s → (standing : Standing) (outer : Option Span) (m : Marked) → AllInside (IsBelow k) m → AllInside (λ a. Plain (unmarked a)) m
-          → search_trees dialect world local scope search deep s (without_locals standing outer) m ≡ only (expands outer m)
+          → search_trees dialect world local scope search (tried deep) s (without_locals standing outer) m ≡ only (expands outer m)
       trees s shown standing outer none h plain = refl
       trees s shown standing outer (token l rest) h plain =
           same_next (only (just outer (at_leaf l ∷ []))) (search_leaf dialect world local scope s (without_locals standing outer) l)
-          (λ here. only (expands outer rest)) (λ here. search_trees dialect world local scope search deep (after_leaf s l) here rest)
+          (λ here. only (expands outer rest)) (λ here. search_trees dialect world local scope search (tried deep) (after_leaf s l) here rest)
           (without_locals standing outer)
           (ap (λ (b : Bool). let o : Outcome D = just outer (if b then [] else at_leaf l ∷ []) in only o) (shown_leaf s l shown))
           (trees (after_leaf s l) (leaf_shown s l) standing outer rest h plain)
       trees s shown standing outer (inside d a rest) h plain =
           let within : Standing = in_group s d.kind standing in
           same_next (only (grouped outer d (expands outer a))) (in_brackets outer d (search (without_locals within outer) (unmarked a)))
-          (λ here. only (expands outer rest)) (λ here. search_trees dialect world local scope search deep (after_group s d.kind) here rest)
+          (λ here. only (expands outer rest)) (λ here. search_trees dialect world local scope search (tried deep) (after_group s d.kind) here rest)
           (without_locals standing outer)
           (ap (in_brackets outer d) (held within outer a h.0 plain.0) ∙ bracketed outer d (expands outer a))
           (trees (after_group s d.kind) (group_shown s d.kind) standing outer rest h.1 plain.1)
       trees s shown standing outer (call path name bang d a rest) h plain =
-          let gone : Bool = takes_end dialect world local scope deep s (without_locals standing outer) path name d (unmarked a) in
-          let stays : gone ≡ false = takes_none deep s standing outer path name d (unmarked a) has.keeps in
-          let site : CallSite = record { at = name.span; whole = whole_call path name bang d (unmarked a); argument = unmarked a } in
+          let site : CallSite = call_site path name bang d (unmarked a) in
+          let gone : Bool = takes_end dialect world local scope (tried deep) s (without_locals standing outer) path name d site in
+          let stays : gone ≡ false = takes_none (tried deep) s standing outer path name d site has.keeps in
           let before : Outcome D = just outer (walk (before_group path name bang)) in
           let of : Scoped D → Scoped D = λ x.
-          at_call dialect world local scope deep (without_locals standing outer) path name site (only (followed_by before (grouped outer d x.outcome))) in
+          at_call dialect world local scope (tried deep) (without_locals standing outer) path name site (only (followed_by before (grouped outer d x.outcome))) in
           let kept : Outcome D = followed_by before (grouped outer d (expands outer a)) in
           same_next (only (expanding.at_call world scope deeper outer path name site kept)) (of (search (without_locals Argument outer) (unmarked a)))
-          (λ here. only (expands outer rest)) (λ here. search_trees dialect world local scope search deep (after_call gone s d.kind) here rest)
+          (λ here. only (expands outer rest)) (λ here. search_trees dialect world local scope search (tried deep) (after_call gone s d.kind) here rest)
           (without_locals standing outer)
           (ap of (held Argument outer a h.0 plain.0) ∙ calls standing outer site plain.0 path name deep deeper same kept)
           (trees (after_call gone s d.kind) (call_shown gone s d.kind stays) standing outer rest h.1 plain.1)
 
       part : (standing : Standing) (outer : Option Span) (p : Forest) (r : PieceKind) → r ≡ plain_piece → size p ≤ k → Plain p
-          → search_piece dialect world local scope search deep (without_locals standing outer) p r ≡ only (expands outer (marked p))
+          → search_piece dialect world local scope search (tried deep) (without_locals standing outer) p r ≡ only (expands outer (marked p))
       part standing outer p plain_piece e h plain = trees Nothing tt standing outer (marked p) (inside_marked k p h) (has.inner p plain)
       part standing outer p (definition_piece d) e h plain = absurd (cc e)
       part standing outer p out_piece e h plain = absurd (cc e)
 
       all_parts : (standing : Standing) (outer : Option Span) (ps : List Forest) → AreWithin k ps → ArePlain dialect.scope Plain ps
-          → search_pieces dialect world local scope search deep (without_locals standing outer) ps ≡ only (each world scope deeper outer ps)
+          → search_pieces dialect world local scope search (tried deep) (without_locals standing outer) ps ≡ only (each world scope deeper outer ps)
       all_parts standing outer [] h plain = refl
       all_parts standing outer (p ∷ ps) h plain =
-          same_next (only (expands outer (marked p))) (search_piece dialect world local scope search deep (without_locals standing outer) p (kind_in dialect standing p))
-          (λ here. only (each world scope deeper outer ps)) (λ here. search_pieces dialect world local scope search deep here ps)
+          same_next (only (expands outer (marked p))) (search_piece dialect world local scope search (tried deep) (without_locals standing outer) p (kind_in dialect standing p))
+          (λ here. only (each world scope deeper outer ps)) (λ here. search_pieces dialect world local scope search (tried deep) here ps)
           (without_locals standing outer) (part standing outer p (kind_in dialect standing p) (kind_plain dialect standing p has.whole plain.0) h.0 plain.1) (all_parts standing outer ps h.1 plain.2)
 
     within_more : (n : ℕ) (ps : List Forest) (k : ℕ) → k ≤ n → AreWithin k ps → AreWithin n ps
     within_more n [] k less h = tt
     within_more n (p ∷ ps) k less h = (omega (arith, less, h.0), within_more n ps k less h.1)
 
-    lists : (n : ℕ) → SameBelow n (search_list dialect world local scope deep n)
+    lists : (n : ℕ) → SameBelow n (search_list dialect world local scope (tried deep) n)
     lists zero standing outer f less plain = absurd (omega (arith, less))
     lists (suc n) standing outer f less plain =
-        all_parts n (search_list dialect world local scope deep n) (lists n) standing outer (cut f)
+        all_parts n (search_list dialect world local scope (tried deep) n) (lists n) standing outer (cut f)
         (within_more n (cut f) (size f) (omega (arith, less)) (within_parts f)) (has.in_parts f plain)
         ∙ ap only (piece_by_piece world scope deeper outer f)
 

@@ -1,6 +1,6 @@
 -- What a limit refuses depends on what was looked up until then alone.
 use Rattle.std.proofs.Common.{◌≡◌, ℕ, zero, suc, ◌-◌, Bool, true, false, List, [], ◌∷◌, ◌++◌, Option, Some, None, refl, sym, ap, subst, ◌∙◌, unwrap_or, option_map, if◌then◌else◌}
-use Rattle.std.specs.Prelude.{All, ◌&&◌, ◌||◌, nat_eq, nat_lt}
+use Rattle.std.specs.Prelude.{All, ◌&&◌, ◌||◌, not, nat_eq, nat_lt}
 use Rattle.std.proofs.lemmas.List.Elements.{All-head, All-tail}
 use Rattle.tt_data.specs.Forest.{Forest, size}
 use Rattle.tt_data.specs.Walk.{Step, walk}
@@ -12,14 +12,14 @@ use Rattle.expander_model.specs.Calls.{Path, bare, from_crate, other, Marked, no
 use Rattle.expander_model.specs.Definitions.{Definition, nearest}
 use Rattle.cfg_options.specs.Conditions.{or_else}
 use Rattle.expander_model.specs.Pieces.{cut}
-use Rattle.expander_model.specs.Expansion.{World, CallSite, just, followed_by, grouped, faulted, found, bursting, before_group, whole_call}
+use Rattle.expander_model.specs.Expansion.{World, CallSite, just, followed_by, grouped, faulted, found, bursting, before_group}
 use Rattle.expander_model.specs.PieceStates.{after_call, after_group, after_leaf}
 use Rattle.expander_model.specs.declared.begun.Begun.{Begun}
 use Rattle.expander_model.specs.declared.begun.Begun.TheVariants.{Nothing}
 use Rattle.expander_model.specs.declared.dialect.Dialect.{Dialect}
-use Rattle.textual_scope.specs.Limits.{Limits, Noted, definition, result, noted_world, noting, noted_list, noted, until_passed, too_large}
+use Rattle.textual_scope.specs.Limits.{Limits, Noted, definition, result, burst, note_of, noted_world, noted_fit, noted_bursts, noting, noted_list, plain_attempt, noted_attempt, noted, until_passed, too_large}
 use Rattle.expander_model.specs.declared.scope_rules.Standing.TheVariants.{Argument}
-use Rattle.expander_model.specs.Scoping.{Around, Scoped, Search, PieceKind, out_piece, definition_piece, plain_piece, kind_in, in_group, behind, only, and_next, in_brackets, is_left_out, fitted, at_level, unbroken, looked_up, at_key, at_call, search_leaf, found_at, is_expanded, is_alone_in, takes_end, search_trees, search_piece, search_pieces}
+use Rattle.expander_model.specs.Scoping.{call_site, Around, Scoped, Search, Expander, Attempt, PieceKind, out_piece, definition_piece, plain_piece, kind_in, in_group, behind, only, and_next, in_brackets, is_left_out, fitted, at_level, unbroken, looked_up, at_key, at_call, search_leaf, found_at, is_replaced, is_alone_in, takes_end, search_trees, search_piece, search_pieces}
 use Rattle.textual_scope.proofs.ResultLemmas.{same_next}
 
 -- ---- notes, as far as they agree
@@ -31,10 +31,11 @@ module _ {D : Type 0} (others : List ℕ → Option D) where
   -- a look-up of a note finds the same among others; a size agrees
   abbrev Agrees : Note → Type 0
   Agrees (key, Some (result n)) = Unit {0}
+  Agrees (key, Some burst) = Unit {0}
   Agrees (key, Some (definition d)) = others key ≡ Some d
   Agrees (key, None) = others key ≡ None
 
-  abbrev AllAgree : List Note → Type 0
+  abbrev pub AllAgree : List Note → Type 0
   AllAgree [] = Unit {0}
   AllAgree (x ∷ xs) = Agrees x × AllAgree xs
 
@@ -97,9 +98,24 @@ module _ {D : Type 0} (others : List ℕ → Option D) where
       h (All-head Same x fs agreed) fs refl (All-tail Same x fs agreed) ∙ e
 
   -- a limit that is passed is passed by what follows
+  -- a note before two results
+  both_noting : (c : Bool) (r : Option Forest) (a b : Scoped (Noted D)) → Both a b → Both (noting (note_of c r) a) (noting (note_of c r) b)
+  both_noting true r a b h = record {
+    follow = λ agrees. (b.outcome.finds, (refl, h.follow));
+    same = λ k. ap (noting (note_of true r)) (h.same k.1);
+  }
+  both_noting false None a b h = h
+  both_noting false (Some f) a b h = record {
+    follow = λ agrees. (b.outcome.finds, (refl, h.follow));
+    same = λ k. ap (noting (note_of false (Some f))) (h.same k.1);
+  }
+
   pub passed_too : (a b : List Note) (calls tokens : ℕ) (finds : Finds) → Follow a b → until_passed calls tokens a ≡ Some finds
       → All Same finds → until_passed calls tokens b ≡ Some finds
   passed_too [] b calls tokens finds h e all = absurd (cc e)
+  passed_too ((key, Some burst) ∷ a) b calls tokens finds h e all =
+      let next : (c : List Note) × ((b ≡ (key, Some burst) ∷ c) × Follow a c) = h tt in
+      ap (until_passed calls tokens) next.1.0 ∙ e
   passed_too ((key, Some (result n)) ∷ a) b calls tokens finds h e all =
       let next : (c : List Note) × ((b ≡ (key, Some (result n)) ∷ c) × Follow a c) = h tt in
       ap (until_passed calls tokens) next.1.0
@@ -136,9 +152,17 @@ module _ {D : Type 0} (dialect : Dialect) (world : World D) (local : Definition 
   abbrev BothIn : Search (Noted D) → Search (Noted D) → Type 0
   BothIn one two = (around : Around) (f : Forest) → Both others (one around f) (two around f)
 
-  abbrev BothDeeper : Option (Search (Noted D)) → Option (Search (Noted D)) → Type 0
+  -- the same of attempts at calls: whether the call is replaced agrees too
+  pub record BothTried (a b : Attempt (Noted D)) : Type 0 where
+    pub replaces : AllAgree others a.given.outcome.finds → b.replaces ≡ a.replaces
+    pub given : Both others a.given b.given
+
+  abbrev BothFrom : Expander (Noted D) → Expander (Noted D) → Type 0
+  BothFrom one two = (d : Noted D) (around : Around) (site : CallSite) → BothTried (one d around site) (two d around site)
+
+  abbrev BothDeeper : Option (Expander (Noted D)) → Option (Expander (Noted D)) → Type 0
   BothDeeper None None = Unit {0}
-  BothDeeper (Some one) (Some two) = BothIn one two
+  BothDeeper (Some one) (Some two) = BothFrom one two
   BothDeeper None (Some two) = ⊥
   BothDeeper (Some one) None = ⊥
 
@@ -152,27 +176,42 @@ module _ {D : Type 0} (dialect : Dialect) (world : World D) (local : Definition 
   both_fitted one two same around site None = record { follow = refl; same = λ k. refl }
   both_fitted one two same around site (Some g) = same (record around { outer = Some (unwrap_or around.outer site.at) }) g
 
-  both_level : (d : D) (one two : Option (Search (Noted D))) → BothDeeper one two → (around : Around) (site : CallSite)
-      → Both others (at_level dialect (noted_world world) local' one_scope (definition d) one around site) (at_level dialect (noted_world world) local' two_scope (definition d) two around site)
+  both_attempt : (one two : Search (Noted D)) → BothIn one two → BothFrom (plain_attempt dialect world local scope one) (plain_attempt dialect world local others two)
+  both_attempt one two same d around site = record {
+    replaces = λ k. refl;
+    given = both_with others (fitted dialect (noted_world world) local' one_scope one around site (noted_fit world d site.argument))
+        (fitted dialect (noted_world world) local' two_scope two around site (noted_fit world d site.argument))
+        (λ a. record a { outcome = bursting (noted_bursts world d site.argument) a.outcome }) (λ x. refl) (both_fitted one two same around site (noted_fit world d site.argument));
+  }
+
+  pub both_tried : (one two : Search (Noted D)) → BothIn one two → BothFrom (noted_attempt dialect world local scope one) (noted_attempt dialect world local others two)
+  both_tried one two same d around site =
+      let tried : BothTried (plain_attempt dialect world local scope one d around site) (plain_attempt dialect world local others two d around site) = both_attempt one two same d around site in
+      record {
+        replaces = λ k. refl;
+        given = both_noting others (noted_bursts world d site.argument) (noted_fit world d site.argument)
+            (plain_attempt dialect world local scope one d around site).given (plain_attempt dialect world local others two d around site).given tried.given;
+      }
+
+  both_level : (d : Noted D) (one two : Option (Expander (Noted D))) → BothDeeper one two → (around : Around) (site : CallSite)
+      → Both others (at_level dialect (noted_world world) local' one_scope d one around site) (at_level dialect (noted_world world) local' two_scope d two around site)
   both_level d None None same around site = record { follow = refl; same = λ k. refl }
-  both_level d (Some one) (Some two) same around site =
-      both_with others (fitted dialect (noted_world world) local' one_scope one around site (world.fit d site.argument)) (fitted dialect (noted_world world) local' two_scope two around site (world.fit d site.argument))
-      (λ a. record a { outcome = bursting (world.bursts d site.argument) a.outcome }) (λ x. refl) (both_fitted one two same around site (world.fit d site.argument))
+  both_level d (Some one) (Some two) same around site = (same d around site).given
   both_level d None (Some two) same around site = absurd same
   both_level d (Some one) None same around site = absurd same
 
-  both_unbroken : (d : D) (b : Bool) (one two : Option (Search (Noted D))) → BothDeeper one two → (around : Around) (site : CallSite)
-      → Both others (unbroken dialect (noted_world world) local' one_scope (definition d) b one around site) (unbroken dialect (noted_world world) local' two_scope (definition d) b two around site)
+  both_unbroken : (d : Noted D) (b : Bool) (one two : Option (Expander (Noted D))) → BothDeeper one two → (around : Around) (site : CallSite)
+      → Both others (unbroken dialect (noted_world world) local' one_scope d b one around site) (unbroken dialect (noted_world world) local' two_scope d b two around site)
   both_unbroken d true one two same around site = record { follow = refl; same = λ k. refl }
   both_unbroken d false one two same around site = both_level d one two same around site
 
-  both_looked_up : (r : Option D) (one two : Option (Search (Noted D))) → BothDeeper one two → (around : Around) (site : CallSite) (kept kept' : Scoped (Noted D)) → Both others kept kept'
+  both_looked_up : (r : Option D) (one two : Option (Expander (Noted D))) → BothDeeper one two → (around : Around) (site : CallSite) (kept kept' : Scoped (Noted D)) → Both others kept kept'
       → Both others (looked_up dialect (noted_world world) local' one_scope (option_map definition r) one around site kept) (looked_up dialect (noted_world world) local' two_scope (option_map definition r) two around site kept')
   both_looked_up None one two same around site kept kept' h = h
-  both_looked_up (Some d) one two same around site kept kept' h = both_unbroken d (world.broken d) one two same around site
+  both_looked_up (Some d) one two same around site kept kept' h = both_unbroken (definition d) (world.broken d) one two same around site
 
   -- a look-up outside, and what comes of it
-  both_found : (key : List ℕ) (r s : Option D) (one two : Option (Search (Noted D))) → BothDeeper one two → (around : Around) (site : CallSite) (kept kept' : Scoped (Noted D)) → Both others kept kept'
+  both_found : (key : List ℕ) (r s : Option D) (one two : Option (Expander (Noted D))) → BothDeeper one two → (around : Around) (site : CallSite) (kept kept' : Scoped (Noted D)) → Both others kept kept'
       → others key ≡ s
       → Both others
       (let a : Scoped (Noted D) = looked_up dialect (noted_world world) local' one_scope (option_map definition r) one around site kept in record a { outcome = found key (option_map definition r) a.outcome })
@@ -205,12 +244,12 @@ module _ {D : Type 0} (dialect : Dialect) (world : World D) (local : Definition 
             same = λ k. ap of (sym (sym k.0 ∙ is)) ∙ ap (λ (a : Scoped (Noted D)). record a { outcome = found key (Some (definition d)) a.outcome }) (both.same k.1);
           }
 
-  both_key : (r : Option Definition) (key : List ℕ) (one two : Option (Search (Noted D))) → BothDeeper one two → (around : Around) (site : CallSite) (kept kept' : Scoped (Noted D)) → Both others kept kept'
+  both_key : (r : Option Definition) (key : List ℕ) (one two : Option (Expander (Noted D))) → BothDeeper one two → (around : Around) (site : CallSite) (kept kept' : Scoped (Noted D)) → Both others kept kept'
       → Both others (at_key dialect (noted_world world) local' one_scope r key one around site kept) (at_key dialect (noted_world world) local' two_scope r key two around site kept')
   both_key (Some d) key one two same around site kept kept' h = both_looked_up (Some (local d)) one two same around site kept kept' h
   both_key None key one two same around site kept kept' h = both_found key (scope key) (others key) one two same around site kept kept' h refl
 
-  both_call : (path : Path) (name : Ident) (one two : Option (Search (Noted D))) → BothDeeper one two → (around : Around) (site : CallSite) (kept kept' : Scoped (Noted D)) → Both others kept kept'
+  both_call : (path : Path) (name : Ident) (one two : Option (Expander (Noted D))) → BothDeeper one two → (around : Around) (site : CallSite) (kept kept' : Scoped (Noted D)) → Both others kept kept'
       → Both others (at_call dialect (noted_world world) local' one_scope one around path name site kept) (at_call dialect (noted_world world) local' two_scope two around path name site kept')
   both_call bare name one two same around site kept kept' h = both_key (nearest around.locals name.sym) name.sym one two same around site kept kept' h
   both_call (from_crate root p q) name one two same around site kept kept' h = both_key None (key_of (from_crate root p q) name) one two same around site kept kept' h
@@ -221,7 +260,7 @@ module _ {D : Type 0} (dialect : Dialect) (world : World D) (local : Definition 
   agrees_same key (Some d) h = h
 
   -- what a call's name finds, where the look-up of the call agrees
-  both_found_at : (path : Path) (name : Ident) (deeper : Option (Search (Noted D))) (around : Around) (site : CallSite) (kept : Scoped (Noted D))
+  both_found_at : (path : Path) (name : Ident) (deeper : Option (Expander (Noted D))) (around : Around) (site : CallSite) (kept : Scoped (Noted D))
       → AllAgree others (at_call dialect (noted_world world) local' one_scope deeper around path name site kept).outcome.finds
       → found_at dialect (noted_world world) local' two_scope around path name ≡ found_at dialect (noted_world world) local' one_scope around path name
   both_found_at bare name deeper around site kept h = go (nearest around.locals name.sym) h
@@ -235,24 +274,52 @@ module _ {D : Type 0} (dialect : Dialect) (world : World D) (local : Definition 
       ap (option_map definition) (agrees_same key (scope key) h.0)
   both_found_at (other p q) name deeper around site kept h = refl
 
-  both_expanded : (one two : Option (Search (Noted D))) → BothDeeper one two → (r : Option (Noted D)) (argument : Forest)
-      → is_expanded dialect (noted_world world) local' two_scope two r argument ≡ is_expanded dialect (noted_world world) local' one_scope one r argument
-  both_expanded None None same r argument = refl
-  both_expanded (Some one) (Some two) same None argument = refl
-  both_expanded (Some one) (Some two) same (Some d) argument = refl
-  both_expanded None (Some two) same r argument = absurd same
-  both_expanded (Some one) None same r argument = absurd same
+  -- whether a call is replaced, where all that it looks up agrees
+  both_replaced : (one two : Option (Expander (Noted D))) → BothDeeper one two → (r : Option D) (around : Around) (site : CallSite) (kept : Scoped (Noted D))
+      → AllAgree others (looked_up dialect (noted_world world) local' one_scope (option_map definition r) one around site kept).outcome.finds
+      → is_replaced dialect (noted_world world) local' two_scope two (option_map definition r) around site ≡ is_replaced dialect (noted_world world) local' one_scope one (option_map definition r) around site
+  both_replaced None None same r around site kept h = refl
+  both_replaced (Some one) (Some two) same None around site kept h = refl
+  both_replaced (Some one) (Some two) same (Some d) around site kept h = go (world.broken d) h
+    where
+      go : (b : Bool) → AllAgree others (unbroken dialect (noted_world world) local' one_scope (definition d) b (Some one) around site).outcome.finds
+          → (not b && (two (definition d) around site).replaces) ≡ (not b && (one (definition d) around site).replaces)
+      go true h = refl
+      go false h = (same (definition d) around site).replaces h
+  both_replaced None (Some two) same r around site kept h = absurd same
+  both_replaced (Some one) None same r around site kept h = absurd same
+
+  both_at : (path : Path) (name : Ident) (one two : Option (Expander (Noted D))) → BothDeeper one two → (around : Around) (site : CallSite) (kept : Scoped (Noted D))
+      → AllAgree others (at_call dialect (noted_world world) local' one_scope one around path name site kept).outcome.finds
+      → is_replaced dialect (noted_world world) local' two_scope two (found_at dialect (noted_world world) local' one_scope around path name) around site
+      ≡ is_replaced dialect (noted_world world) local' one_scope one (found_at dialect (noted_world world) local' one_scope around path name) around site
+  both_at bare name one two same around site kept h = go (nearest around.locals name.sym) h
+    where
+      go : (r : Option Definition) → AllAgree others (at_key dialect (noted_world world) local' one_scope r name.sym one around site kept).outcome.finds
+          → is_replaced dialect (noted_world world) local' two_scope two (or_else (option_map local' r) (one_scope name.sym)) around site
+          ≡ is_replaced dialect (noted_world world) local' one_scope one (or_else (option_map local' r) (one_scope name.sym)) around site
+      go (Some d) h = both_replaced one two same (Some (local d)) around site kept h
+      go None h = both_replaced one two same (scope name.sym) around site kept h.1
+  both_at (from_crate root p q) name one two same around site kept h = both_replaced one two same (scope (key_of (from_crate root p q) name)) around site kept h.1
+  both_at (other p q) name one two same around site kept h = none one two same
+    where
+      none : (one two : Option (Expander (Noted D))) → BothDeeper one two
+          → is_replaced dialect (noted_world world) local' two_scope two None around site ≡ is_replaced dialect (noted_world world) local' one_scope one None around site
+      none None None same = refl
+      none (Some one) (Some two) same = refl
+      none None (Some two) same = absurd same
+      none (Some one) None same = absurd same
 
   -- whether a `;` goes with the call
-  both_end : (s : Begun) (path : Path) (name : Ident) (d : Delimiter) (argument : Forest) (one two : Option (Search (Noted D))) → BothDeeper one two → (around : Around) (site : CallSite) (kept : Scoped (Noted D))
+  both_end : (s : Begun) (path : Path) (name : Ident) (d : Delimiter) (one two : Option (Expander (Noted D))) → BothDeeper one two → (around : Around) (site : CallSite) (kept : Scoped (Noted D))
       → AllAgree others (at_call dialect (noted_world world) local' one_scope one around path name site kept).outcome.finds
-      → takes_end dialect (noted_world world) local' two_scope two s around path name d argument ≡ takes_end dialect (noted_world world) local' one_scope one s around path name d argument
-  both_end s path name d argument one two same around site kept h =
+      → takes_end dialect (noted_world world) local' two_scope two s around path name d site ≡ takes_end dialect (noted_world world) local' one_scope one s around path name d site
+  both_end s path name d one two same around site kept h =
       let alone : Bool = is_alone_in dialect s around.standing d in
-      ap (λ (r : Option (Noted D)). alone && is_expanded dialect (noted_world world) local' two_scope two r argument) (both_found_at path name one around site kept h)
-      ∙ ap (λ (b : Bool). alone && b) (both_expanded one two same (found_at dialect (noted_world world) local' one_scope around path name) argument)
+      ap (λ (r : Option (Noted D)). alone && is_replaced dialect (noted_world world) local' two_scope two r around site) (both_found_at path name one around site kept h)
+      ∙ ap (λ (b : Bool). alone && b) (both_at path name one two same around site kept h)
 
-  module _ (one two : Search (Noted D)) (same : BothIn one two) (deep deep' : Option (Search (Noted D))) (deeper : BothDeeper deep deep') where
+  module _ (one two : Search (Noted D)) (same : BothIn one two) (deep deep' : Option (Expander (Noted D))) (deeper : BothDeeper deep deep') where
     both_trees : (s : Begun) (around : Around) (m : Marked)
         → Both others (search_trees dialect (noted_world world) local' one_scope one deep s around m) (search_trees dialect (noted_world world) local' two_scope two deep' s around m)
     both_trees s around none = record { follow = refl; same = λ k. refl }
@@ -266,11 +333,11 @@ module _ {D : Type 0} (dialect : Dialect) (world : World D) (local : Definition 
         (λ here. search_trees dialect (noted_world world) local' one_scope one deep (after_group s d.kind) here rest) (λ here. search_trees dialect (noted_world world) local' two_scope two deep' (after_group s d.kind) here rest)
         around (both_with others (one inner (unmarked a)) (two inner (unmarked a)) (in_brackets around.outer d) (λ x. refl) (same inner (unmarked a))) (λ all here. both_trees (after_group s d.kind) here rest)
     both_trees s around (call path name bang d a rest) =
-        let site : CallSite = record { at = name.span; whole = whole_call path name bang d (unmarked a); argument = unmarked a } in
+        let site : CallSite = call_site path name bang d (unmarked a) in
         let inner : Around = record around { standing = Argument } in
         let of : Scoped (Noted D) → Scoped (Noted D) = λ x. only (followed_by (just around.outer (walk (before_group path name bang))) (grouped around.outer d x.outcome)) in
-        let gone : Bool = takes_end dialect (noted_world world) local' one_scope deep s around path name d (unmarked a) in
-        let gone' : Bool = takes_end dialect (noted_world world) local' two_scope deep' s around path name d (unmarked a) in
+        let gone : Bool = takes_end dialect (noted_world world) local' one_scope deep s around path name d site in
+        let gone' : Bool = takes_end dialect (noted_world world) local' two_scope deep' s around path name d site in
         let after : Bool → Around → Scoped (Noted D) = λ t here. search_trees dialect (noted_world world) local' two_scope two deep' (after_call t s d.kind) here rest in
         both_next others (at_call dialect (noted_world world) local' one_scope deep around path name site (of (one inner (unmarked a)))) (at_call dialect (noted_world world) local' two_scope deep' around path name site (of (two inner (unmarked a))))
         (λ here. search_trees dialect (noted_world world) local' one_scope one deep (after_call gone s d.kind) here rest) (after gone')
@@ -278,7 +345,7 @@ module _ {D : Type 0} (dialect : Dialect) (world : World D) (local : Definition 
         (both_call path name deep deep' deeper around site (of (one inner (unmarked a))) (of (two inner (unmarked a)))
         (both_with others (one inner (unmarked a)) (two inner (unmarked a)) of (λ x. refl) (same inner (unmarked a))))
         (λ all here. subst (λ (t : Bool). Both others (search_trees dialect (noted_world world) local' one_scope one deep (after_call gone s d.kind) here rest) (after t here))
-        (sym (both_end s path name d (unmarked a) deep deep' deeper around site (of (one inner (unmarked a))) all))
+        (sym (both_end s path name d deep deep' deeper around site (of (one inner (unmarked a))) all))
         (both_trees (after_call gone s d.kind) here rest))
 
     both_part : (around : Around) (p : Forest) (k : PieceKind)
@@ -295,30 +362,27 @@ module _ {D : Type 0} (dialect : Dialect) (world : World D) (local : Definition 
         (λ here. search_pieces dialect (noted_world world) local' one_scope one deep here ps) (λ here. search_pieces dialect (noted_world world) local' two_scope two deep' here ps)
         around (both_part around p (kind_in dialect around.standing p)) (λ all here. both_parts here ps)
 
-  both_list : (deep deep' : Option (Search (Noted D))) → BothDeeper deep deep' → (n : ℕ)
+  both_list : (deep deep' : Option (Expander (Noted D))) → BothDeeper deep deep' → (n : ℕ)
       → BothIn (noted_list dialect world local scope deep n) (noted_list dialect world local others deep' n)
   both_list deep deep' deeper zero around f = record { follow = refl; same = λ k. refl }
   both_list deep deep' deeper (suc n) around f =
       both_parts (noted_list dialect world local scope deep n) (noted_list dialect world local others deep' n) (both_list deep deep' deeper n) deep deep' deeper around (cut f)
 
-  both_noting : (one two : Search (Noted D)) → BothIn one two → BothIn (noting one) (noting two)
-  both_noting one two same around f =
-      let h : Both others (one around f) (two around f) = same around f in
-      record {
-        follow = λ agrees. ((two around f).outcome.finds, (refl, h.follow));
-        same = λ k. ap (λ (a : Scoped (Noted D)). record a { outcome = found [] (Some (result (size f))) a.outcome }) (h.same k.1);
-      }
-
-  both_noted : (n : ℕ) → BothIn (noted dialect world local scope n) (noted dialect world local others n)
+  pub both_noted : (n : ℕ) → BothIn (noted dialect world local scope n) (noted dialect world local others n)
   both_noted zero around f = both_list None None tt (suc (size f)) around f
   both_noted (suc n) around f =
-      both_list (Some (noting (noted dialect world local scope n))) (Some (noting (noted dialect world local others n)))
-      (both_noting (noted dialect world local scope n) (noted dialect world local others n) (λ here g. both_noted n here g)) (suc (size f)) around f
+      let one : Search (Noted D) = noted dialect world local scope n in
+      let two : Search (Noted D) = noted dialect world local others n in
+      both_list (Some (noted_attempt dialect world local scope one)) (Some (noted_attempt dialect world local others two))
+      (both_tried one two (λ here g. both_noted n here g)) (suc (size f)) around f
 
   -- the law
-  pub refused_too : (limits : Limits) (n : ℕ) (around : Around) (f : Forest) (finds : List (List ℕ × Option D)) → too_large dialect world local scope limits n around f ≡ Some finds
-      → All (λ find. others find.0 ≡ find.1) finds → too_large dialect world local others limits n around f ≡ Some finds
-  refused_too limits n around f finds e all =
-      passed_too others (noting (noted dialect world local scope n) around f).outcome.finds (noting (noted dialect world local others n) around f).outcome.finds
-      limits.calls limits.tokens finds
-      (both_noting (noted dialect world local scope n) (noted dialect world local others n) (both_noted n) around f).follow e all
+  pub refused_too : (limits : Limits) (n : ℕ) (d : D) (around : Around) (site : CallSite) (finds : List (List ℕ × Option D))
+      → too_large dialect world local scope limits n d around site ≡ Some finds
+      → All (λ find. others find.0 ≡ find.1) finds → too_large dialect world local others limits n d around site ≡ Some finds
+  refused_too limits n d around site finds e all =
+      let one : Search (Noted D) = noted dialect world local scope n in
+      let two : Search (Noted D) = noted dialect world local others n in
+      passed_too others (noted_attempt dialect world local scope one (definition d) around site).given.outcome.finds
+      (noted_attempt dialect world local others two (definition d) around site).given.outcome.finds
+      limits.calls limits.tokens finds (both_tried one two (both_noted n) (definition d) around site).given.follow e all

@@ -5,7 +5,7 @@ use Rattle.tt_data.specs.Forest.{Forest}
 use Rattle.expander_model.specs.Definitions.{Definition}
 use Rattle.expander_model.specs.Expansion.{World, Outcome, just, followed_by}
 use Rattle.expander_model.specs.declared.dialect.Dialect.{Dialect}
-use Rattle.expander_model.specs.Scoping.{Around, Scoped, Search, kind_in, only, and_next, behind, search_piece, search_pieces}
+use Rattle.expander_model.specs.Scoping.{Around, Scoped, Search, Expander, kind_in, only, and_next, behind, search_piece, search_pieces}
 
 or_assoc : (a b c : Bool) → ((a || b) || c) ≡ (a || (b || c))
 or_assoc true b c = refl
@@ -67,7 +67,7 @@ module _ {D : Type 0} where
       ap (λ (x : Scoped D). and_next x g around) here
       ∙ ap (λ (x : Scoped D). record { outcome = followed_by a.outcome x.outcome; defines = x.defines ++ a.defines }) there
 
-module _ {D : Type 0} (dialect : Dialect) (world : World D) (local : Definition → D) (scope : List ℕ → Option D) (search : Search D) (deeper : Option (Search D)) where
+module _ {D : Type 0} (dialect : Dialect) (world : World D) (local : Definition → D) (scope : List ℕ → Option D) (search : Search D) (deeper : Option (Expander D)) where
   -- the parts of two lists, one list after the other
   pub parts-append : (around : Around) (front back : List Forest) → search_pieces dialect world local scope search deeper around (front ++ back)
       ≡ and_next (search_pieces dialect world local scope search deeper around front) (λ here. search_pieces dialect world local scope search deeper here back) around

@@ -1,19 +1,19 @@
 -- A search is the same with any number of steps that is more than the size of its list.
-use Rattle.std.proofs.Common.{◌≡◌, ℕ, zero, suc, ◌<◌, ◌≤◌, ◌+◌, Bool, true, false, List, [], ◌∷◌, Option, Some, None, refl, ap, arith, if◌then◌else◌}
+use Rattle.std.proofs.Common.{◌≡◌, ℕ, zero, suc, ◌<◌, ◌≤◌, ◌+◌, Bool, true, false, List, [], ◌∷◌, Option, refl, ap, arith, if◌then◌else◌}
 use Rattle.tt_data.specs.Forest.{Forest, empty, leaf, group, joined, size}
 use Rattle.tt_data.proofs.ForestLemmas.{size-joined}
 use Rattle.tt_data.specs.Walk.{walk}
 use Rattle.bridge.specs.Text.{is_punct}
 use Rattle.expander_model.specs.Calls.{Marked, none, token, inside, call, marked, unmarked}
 use Rattle.expander_model.specs.Definitions.{Definition}
-use Rattle.expander_model.specs.Expansion.{World, CallSite, just, followed_by, grouped, before_group, whole_call}
+use Rattle.expander_model.specs.Expansion.{World, CallSite, just, followed_by, grouped, before_group}
 use Rattle.expander_model.specs.Pieces.{cut, cut_from, ends_piece}
 use Rattle.expander_model.specs.PieceStates.{after_call, after_group, after_leaf}
 use Rattle.expander_model.specs.declared.begun.Begun.{Begun}
 use Rattle.expander_model.specs.declared.begun.Begun.TheVariants.{Nothing}
 use Rattle.expander_model.specs.declared.dialect.Dialect.{Dialect}
 use Rattle.expander_model.specs.declared.scope_rules.Standing.TheVariants.{Argument}
-use Rattle.expander_model.specs.Scoping.{Around, Scoped, Search, PieceKind, out_piece, definition_piece, plain_piece, kind_in, in_group, behind, only, in_brackets, at_call, search_leaf, takes_end, search_trees, search_piece, search_pieces, search_list}
+use Rattle.expander_model.specs.Scoping.{call_site, Around, Scoped, Search, Expander, PieceKind, out_piece, definition_piece, plain_piece, kind_in, in_group, behind, only, in_brackets, at_call, search_leaf, takes_end, search_trees, search_piece, search_pieces, search_list}
 use Rattle.textual_scope.proofs.MarkLemmas.{AllInside, IsBelow, inside_marked}
 use Rattle.textual_scope.proofs.ResultLemmas.{same_next}
 
@@ -45,7 +45,7 @@ within_cut k (group d inner rest) begun h =
 pub within_parts : (f : Forest) → AreWithin (size f) (cut f)
 within_parts f = within_cut (size f) f empty (omega arith)
 
-module _ {D : Type 0} (dialect : Dialect) (world : World D) (local : Definition → D) (scope : List ℕ → Option D) (deeper : Option (Search D)) where
+module _ {D : Type 0} (dialect : Dialect) (world : World D) (local : Definition → D) (scope : List ℕ → Option D) (deeper : Option (Expander D)) where
   abbrev pub SameBelow : ℕ → Search D → Search D → Type 0
   SameBelow k one two = (around : Around) (f : Forest) → size f < k → two around f ≡ one around f
 
@@ -63,12 +63,12 @@ module _ {D : Type 0} (dialect : Dialect) (world : World D) (local : Definition 
         (λ here. search_trees dialect world local scope one deeper (after_group s d.kind) here rest) (λ here. search_trees dialect world local scope two deeper (after_group s d.kind) here rest)
         around (ap (in_brackets around.outer d) (same inner (unmarked a) h.0.less)) (same_trees (after_group s d.kind) (behind first.defines around) rest h.1)
     same_trees s around (call path name bang d a rest) h =
-        let site : CallSite = record { at = name.span; whole = whole_call path name bang d (unmarked a); argument = unmarked a } in
+        let site : CallSite = call_site path name bang d (unmarked a) in
         let of : Scoped D → Scoped D = λ x.
         at_call dialect world local scope deeper around path name site
         (only (followed_by (just around.outer (walk (before_group path name bang))) (grouped around.outer d x.outcome))) in
         let inner : Around = record around { standing = Argument } in
-        let gone : Bool = takes_end dialect world local scope deeper s around path name d (unmarked a) in
+        let gone : Bool = takes_end dialect world local scope deeper s around path name d site in
         let first : Scoped D = of (one inner (unmarked a)) in
         same_next first (of (two inner (unmarked a)))
         (λ here. search_trees dialect world local scope one deeper (after_call gone s d.kind) here rest) (λ here. search_trees dialect world local scope two deeper (after_call gone s d.kind) here rest)

@@ -12,7 +12,7 @@ use Rattle.expander_model.specs.Pieces.{cut}
 use Rattle.expander_model.specs.declared.begun.Begun.{Begun}
 use Rattle.expander_model.specs.declared.begun.Begun.TheVariants.{Nothing}
 use Rattle.expander_model.specs.declared.dialect.Dialect.{Dialect}
-use Rattle.expander_model.specs.Scoping.{Around, Scoped, Search, and_next, search_trees, search_pieces}
+use Rattle.expander_model.specs.Scoping.{Around, Scoped, Search, Expander, and_next, search_trees, search_pieces}
 
 -- a tree before those of the first piece ahead
 abbrev pub with_leaf : Leaf → Forest × Forest → Forest × Forest
@@ -45,7 +45,7 @@ AreOfCall (from_crate root p q) bang d =
     (is_bang_group bang d ≡ true) × (is_colons p q ≡ true) × (is_root root ≡ true)
 
 module _ {D : Type 0} (dialect : Dialect) (world : World D) (local : Definition → D)
-    (scope : List ℕ → Option D) (search : Search D) (deeper : Option (Search D)) where
+    (scope : List ℕ → Option D) (search : Search D) (deeper : Option (Expander D)) where
   -- the search of pieces that are not begun
   abbrev pub pieces_left : Around → Forest → Scoped D
   pieces_left around f = search_pieces dialect world local scope search deeper around (cut f)

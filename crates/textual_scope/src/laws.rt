@@ -6,19 +6,20 @@ ghost use Rattle.tt_data.specs.declared.span.Span.{Span};
 ghost use Rattle.expander_model.specs.Changes.{Changes, ScopeChange};
 ghost use Rattle.expander_model.specs.Dialects.{top_level};
 ghost use Rattle.expander_model.specs.Definitions.{Definition, after_attribute, definition_of};
-ghost use Rattle.expander_model.specs.Expansion.{World, expansion, just};
+ghost use Rattle.expander_model.specs.Expansion.{CallSite, World, expansion, just};
 ghost use Rattle.expander_model.specs.Meaning.{Layers, meaning_in};
 ghost use Rattle.expander_model.specs.OtherPlaces.{definition_with};
 ghost use Rattle.expander_model.specs.Pieces.{pieces};
 ghost use Rattle.cfg_options.specs.Conditions.{Options};
 ghost use Rattle.expander_model.specs.WholeItems.{definition_under, is_configured_out};
 ghost use Rattle.textual_scope.specs.Keywords.{AddsNoKeyword, HasNoKeyword, NestsNone};
-ghost use Rattle.textual_scope.specs.Limits.{Limits, noted, too_large, unnoted};
+ghost use Rattle.textual_scope.specs.Limits.{Limits, bounded, noted, too_large, unnoted};
 ghost use Rattle.textual_scope.specs.ScopeChanges.{around_with, scoped_with};
 ghost use Rattle.textual_scope.specs.TopLevelMeaning.{top_meaning};
 ghost use Rattle.expander_model.specs.declared.scope_rules.Standing.{Standing};
-ghost use Rattle.expander_model.specs.Scoping.{Around, Scoped, Search, and_next, only, scoped, search_list, search_pieces, without_locals};
+ghost use Rattle.expander_model.specs.Scoping.{Around, Expander, Scoped, Search, and_next, only, scoped, search_list, search_pieces, without_locals};
 ghost use Rattle.expander_model.specs.declared.dialect.Dialect.{Dialect};
+ghost use Rattle.expander_model.specs.declared.fault.FaultKind.{FaultKind};
 ghost use Rattle.expander_model.specs.declared.scope_rules.ScopeRules.TheVariants.{Rust};
 
 /// Where no option is set a list is expanded as if no list had definitions, and defines nothing:
@@ -81,7 +82,7 @@ pub fn scoped_expansions_at_other_spans()
 /// With more steps than a list has tokens a search of it gives the same, however many they are.
 pub fn more_steps_change_nothing()
     ensures { (dialect : Dialect) (world : World Definition) (local : Definition → Definition)
-        (scope : List ℕ → Option Definition) (deeper : Option (Search Definition)) (n m : ℕ)
+        (scope : List ℕ → Option Definition) (deeper : Option (Expander Definition)) (n m : ℕ)
         (around : Around) (f : Forest) →
         size f < n → size f < m →
         search_list dialect world local scope deeper n around f
@@ -101,7 +102,7 @@ pub fn results_follow_one_another()
         and_next a (λ here. only (just here.outer [])) around ≡ a }
     ensures lists { (dialect : Dialect) (world : World Definition)
         (local : Definition → Definition) (scope : List ℕ → Option Definition)
-        (search : Search Definition) (deeper : Option (Search Definition)) (around : Around)
+        (search : Search Definition) (deeper : Option (Expander Definition)) (around : Around)
         (front back : List Forest) →
         search_pieces dialect world local scope search deeper around (front ++ back)
         ≡ and_next (search_pieces dialect world local scope search deeper around front)
@@ -131,19 +132,50 @@ pub fn notes_change_nothing()
 /// What a call makes within limits is within larger ones.
 pub fn larger_limits_refuse_less()
     ensures { (dialect : Dialect) (world : World Definition) (local : Definition → Definition)
-        (scope : List ℕ → Option Definition) (less more : Limits) (n : ℕ) (around : Around)
-        (f : Forest) → less.calls ≤ more.calls → less.tokens ≤ more.tokens →
-        too_large dialect world local scope less n around f ≡ None →
-        too_large dialect world local scope more n around f ≡ None }
+        (scope : List ℕ → Option Definition) (less more : Limits) (n : ℕ) (d : Definition)
+        (around : Around) (site : CallSite) →
+        less.calls ≤ more.calls → less.tokens ≤ more.tokens →
+        too_large dialect world local scope less n d around site ≡ None →
+        too_large dialect world local scope more n d around site ≡ None }
 {}
 
 /// Whether a call makes too much depends on what was looked up until then, and on nothing else
 /// outside of all lists.
 pub fn refusals_depend_on_lookups_so_far()
     ensures { (dialect : Dialect) (world : World Definition) (local : Definition → Definition)
-        (scope others : List ℕ → Option Definition) (limits : Limits) (n : ℕ) (around : Around)
-        (f : Forest) (finds : List (List ℕ × Option Definition)) →
-        too_large dialect world local scope limits n around f ≡ Some finds →
+        (scope others : List ℕ → Option Definition) (limits : Limits) (n : ℕ) (d : Definition)
+        (around : Around) (site : CallSite) (finds : List (List ℕ × Option Definition)) →
+        too_large dialect world local scope limits n d around site ≡ Some finds →
         All (λ find. others find.0 ≡ find.1) finds →
-        too_large dialect world local others limits n around f ≡ Some finds }
+        too_large dialect world local others limits n d around site ≡ Some finds }
+{}
+
+/// An expansion by limits depends on what its look-ups find outside of all lists, those of a call
+/// that makes too much until then among them, and on nothing else there: `lookups`. Each of its
+/// look-ups is what the scope outside answers: `found`.
+pub fn expansions_by_limits_depend_on_outer_lookups_alone()
+    ensures lookups { (dialect : Dialect) (world : World Definition)
+        (local : Definition → Definition) (scope others : List ℕ → Option Definition)
+        (kind : FaultKind) (limits : Limits) (depth : ℕ) (around : Around) (f : Forest) →
+        All (λ find. others find.0 ≡ find.1)
+        (bounded dialect world local scope kind limits depth around f).outcome.finds →
+        bounded dialect world local others kind limits depth around f
+        ≡ bounded dialect world local scope kind limits depth around f }
+    ensures found { (dialect : Dialect) (world : World Definition)
+        (local : Definition → Definition) (scope : List ℕ → Option Definition)
+        (kind : FaultKind) (limits : Limits) (depth : ℕ) (around : Around) (f : Forest) →
+        All (λ find. scope find.0 ≡ find.1)
+        (bounded dialect world local scope kind limits depth around f).outcome.finds }
+{}
+
+/// By limits too a list at spans that `f` gives is expanded as at its own, and `f` and `h` applied.
+pub fn expansions_by_limits_at_other_spans()
+    ensures { (dialect : Dialect) (f : Span → Span) (h : Definition → Definition)
+        (one two : World Definition) (local moved : Definition → Definition)
+        (scope changed : List ℕ → Option Definition) (kind : FaultKind) (limits : Limits)
+        (depth : ℕ) (around : Around) (g : Forest) →
+        Changes f h one two → ScopeChange h scope changed →
+        ((d : Definition) → moved (definition_with f d) ≡ h (local d)) →
+        bounded dialect two moved changed kind limits depth (around_with f around) (map_spans f g)
+        ≡ scoped_with f h (bounded dialect one local scope kind limits depth around g) }
 {}

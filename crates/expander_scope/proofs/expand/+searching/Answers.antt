@@ -2,11 +2,10 @@ use Rattle.std.proofs.Common.{◌≡◌, ◌-◌, ◌++◌, ◌∙◌, ap, refl,
 use Rattle.tt_data.specs.Forest.{leaf}
 use Rattle.tt_data.specs.Lent.{leaf_lent}
 use Rattle.expander_model.specs.Definitions.{definition_of}
-use Rattle.expander_model.specs.Scoping.{defined}
 use Rattle.std.specs.Prelude.{None, Some, Ok, Err, OnOk}
-use Rattle.expander_model.specs.Held.{numbered_world, unnumbered}
+use Rattle.expander_model.specs.Held.{numbered_world}
 use Rattle.expander_model.specs.World.{world}
-use Rattle.expander_scope.specs.Expanding.{Adds, answer, around_in, searched, searched_under, world_under}
+use Rattle.expander_scope.specs.Expanding.{Adds, answer, around_in, defined_under, searched, searched_under, world_under}
 use Rattle.expander_scope.specs.ListsLeft.{IsAhead}
 use Rattle.expander_scope.specs.LocalTables.{AreReadIn, locals_of}
 use Rattle.expander_scope.specs.Turns.{begun_behind, shown_of}
@@ -129,8 +128,8 @@ search_list-turns-preserved-in-Some-piece_ahead g t c =
     c.go_on-in-Some-piece_ahead.ensures.here c.go_on-in-Some-piece_ahead.ensures.groups refl refl refl
     (c.in_ok-define.ensures.locals d is) c.in_ok-define.ensures.read
     (subst (λ s. Adds g.S.EventSink.has_taken c.turns.search.out c.define.new.search.out
-    (defined c.args.env.now.dialect.now (world_under (g.G.FragmentGrammar.answer c.args.env.now.grammar.now) c.args.env.now.scope.now c.args.env.now.dialect.now) unnumbered (scope_in c.args.env.now.scope.now) (record { standing = s; outer = c.args.outer; locals = G.place.locals }) d).outcome) G.at.standing
-    (c.in_ok-define.ensures.adds c.args.env.now.dialect.now d G.place.locals is)))
+    (defined_under (g.G.FragmentGrammar.answer c.args.env.now.grammar.now) c.args.env.now.scope.now c.args.env.now.dialect.now (record { standing = s; outer = c.args.outer; locals = G.place.locals }) d).outcome) G.at.standing
+    (c.in_ok-define.ensures.adds d G.place.locals is)))
 
 pub search_list-turns-smaller-in_ok-expand_call-in-Call : goal.search_list-turns-smaller-in_ok-expand_call-in-Call
 search_list-turns-smaller-in_ok-expand_call-in-Call g t c =

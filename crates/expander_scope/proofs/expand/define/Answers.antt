@@ -14,7 +14,7 @@ use Rattle.expander_scope.proofs.LocalLemmas.{known_as}
 use Rattle.expander_scope.proofs.expand.define.Goals as goal
 
 pub returns-clause-adds : goal.returns-clause-adds
-returns-clause-adds g c = λ rules d locals is.
+returns-clause-adds g c = λ d locals is.
     let k = c.in_ok-known.known in
     let same : c.in-Some.definition ≡ d = some_is _ _ (c.in-Some.ensures ∙ is) in
     let numbered : numbered_of_known k ≡ unnumbered d = known_as k c.args.piece.now d c.in_ok-known.ensures.number c.in_ok-known.ensures.tree is in

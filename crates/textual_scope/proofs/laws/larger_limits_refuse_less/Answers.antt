@@ -1,7 +1,7 @@
 use Rattle.textual_scope.proofs.LimitLemmas.{within_more}
-use Rattle.textual_scope.specs.Limits.{noting, noted}
+use Rattle.textual_scope.specs.Limits.{definition, noted, noted_attempt}
 use Rattle.textual_scope.proofs.laws.larger_limits_refuse_less.Goals as goal
 
 pub returns : goal.returns
-returns c = λ dialect world local scope less more n around f p q e.
-    within_more (noting (noted dialect world local scope n) around f).outcome.finds less.calls more.calls less.tokens more.tokens p q e
+returns c = λ dialect world local scope less more n d around site p q e.
+    within_more (noted_attempt dialect world local scope (noted dialect world local scope n) (definition d) around site).given.outcome.finds less.calls more.calls less.tokens more.tokens p q e
