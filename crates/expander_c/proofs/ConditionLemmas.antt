@@ -1,16 +1,11 @@
 -- Sets of options, as words name them one after another. Used in proofs/conditions.
-use Rattle.std.proofs.Common.{◌≡◌, ℕ, ◌<◌, List, false, Option, Some, None, length, get_or, map, ap, sym}
+use Rattle.std.proofs.Common.{◌≡◌, ℕ, ◌<◌, List, Option, Some, None, length, get_or, map, ap, sym}
 use Rattle.std.proofs.lemmas.List.{get_or-map, length-map}
 use Rattle.std.specs.Prelude.{Any}
 use Rattle.small_grammar.specs.Text.{◌>>=◌}
 use Rattle.cfg_options.specs.Conditions.{Options}
 use Rattle.cfg_options.specs.Words.{Sets}
-use Rattle.expander_c.specs.Conditions.{no_options, with_named, with_option}
-
--- the set in which no option is
-pub none_is : (set : Options)
-    → ((name : List ℕ) (value : Option (List ℕ)) → set name value ≡ false) → set ≡ no_options
-none_is set h = λ i name value. h name value i
+use Rattle.expander_c.specs.Conditions.{with_named, with_option}
 
 -- the set in which one option more is
 set_is : (o : List ℕ × Option (List ℕ)) (before after : Options)
