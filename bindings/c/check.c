@@ -1,5 +1,5 @@
 /* Checks of the C interface: the row of the README, every code that a text of this size can bring about but MEMORY,
- * and random edits of one session against fresh sessions, by both rules of scopes. */
+ * and random edits of one session against fresh sessions, by both rules of scopes, with and without options for `cfg`. */
 #define _GNU_SOURCE
 #include "expander.h"
 #include <stdbool.h>
@@ -379,17 +379,24 @@ static size_t told(struct expander_session *s, uint8_t *into) {
     return n;
 }
 
-static void random_edits(int count, uint32_t scope) {
+/* A session by these rules of scopes, under options for `cfg` if so. */
+static uint32_t open_by(struct expander_session *s, const char *text, size_t len, uint32_t scope, bool is_under) {
     const struct expander_options options = {2024, EXPANDER_GRAMMAR_RUST, scope, 128};
+    const struct expander_word words[] = {{"a", 1}, {"c = \"d\"", 7}};
+    return is_under ? expander_open_cfg(s, text, len, &options, words, 2) : expander_open_with(s, text, len, &options);
+}
+
+static void random_edits(int count, uint32_t scope, bool is_under) {
     static const char *const parts[] = {"x", " y", "(", ")", "{", "}", "p!{ x y }", "'a", "\"s\"", "1.0", ";", "\xc3\xa9", "//c\n",
         "/// d\n", "macro_rules! q { ($($t:tt)*) => { $($t)* } }\n", "q!{ p!{ a b } }\n",
-        "{ macro_rules! p { ($x:tt $y:tt) => { $y } } p!{ c d } }\n", "$", "#", "::", " "};
+        "{ macro_rules! p { ($x:tt $y:tt) => { $y } } p!{ c d } }\n", "$", "#", "::", " ", "#[cfg(a)] ", "#[cfg(not(a))] ",
+        "#[cfg(b)] macro_rules! p { ($($t:tt)*) => { no } }\n", "#[cfg_attr(c = \"d\", cfg(b))] "};
     static _Alignas(8) uint8_t one[1 << 20], other[1 << 20];
     static char text[1 << 16], good[1 << 16];
     struct expander_session s = EXPANDER_SESSION_INIT;
     int read = 0;
     bool is_read = true;
-    SAME(expander_open_with(&s, TEXT "\n", strlen(TEXT "\n"), &options), EXPANDER_OK);
+    SAME(open_by(&s, TEXT "\n", strlen(TEXT "\n"), scope, is_under), EXPANDER_OK);
     for (int i = 0; i < count; i++) {
         size_t len;
         SAME(expander_text(&s, text, sizeof text, &len), EXPANDER_OK);
@@ -406,7 +413,7 @@ static void random_edits(int count, uint32_t scope) {
         size_t n = told(&s, one);
         SAME(expander_text(&s, text, sizeof text, &len), EXPANDER_OK);
         struct expander_session fresh = EXPANDER_SESSION_INIT;
-        SAME(expander_open_with(&fresh, text, len, &options), EXPANDER_OK);
+        SAME(open_by(&fresh, text, len, scope, is_under), EXPANDER_OK);
         SAME(told(&fresh, other), n);
         SAME(memcmp(one, other, n), 0);
         is_read = one[0] == EXPANDER_OK, read += is_read;
@@ -424,8 +431,8 @@ int main(int argc, char **argv) {
     conditions();
     codes();
     sources();
-    for (uint32_t scope = EXPANDER_SCOPE_TOP; scope <= EXPANDER_SCOPE_RUST; scope++)
-        random_edits(argc > 1 ? atoi(argv[1]) : 1000, scope);
+    for (int way = 0; way < 4; way++)
+        random_edits(argc > 1 ? atoi(argv[1]) : 1000, way % 2 ? EXPANDER_SCOPE_RUST : EXPANDER_SCOPE_TOP, way > 1);
     if (failures) printf("%d failures\n", failures);
     return failures != 0;
 }
