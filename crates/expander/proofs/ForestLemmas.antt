@@ -19,7 +19,7 @@ use Rattle.expander_model.specs.Printing.{steps_of}
 use Rattle.expander_model.specs.declared.begun.Begun.{Begun}
 use Rattle.expander_model.specs.declared.begun.Begun.TheVariants.{Nothing}
 use Rattle.tt_data.specs.declared.leaf.Leaf.{Leaf}
-use Rattle.expander_model.specs.Scoping.{Around, Scoped, Search, PieceKind, out_piece, definition_piece, plain_piece, found_in, kind_in, is_left_out, in_group, behind, without_locals, and_next, in_brackets, defined, fitted, at_level, unbroken, looked_up, at_key, at_call, kept_call, search_leaf, takes_end, search_trees, search_piece, search_pieces, search_list, scoped}
+use Rattle.expander_model.specs.Scoping.{call_site, Around, Scoped, Search, Expander, attempt, PieceKind, out_piece, definition_piece, plain_piece, found_in, kind_in, is_left_out, in_group, behind, without_locals, and_next, in_brackets, defined, fitted, at_level, unbroken, looked_up, at_key, at_call, kept_call, search_leaf, takes_end, search_trees, search_piece, search_pieces, search_list, scoped}
 use Rattle.expander_model.specs.declared.fault.FaultKind.TheVariants.{BrokenDefinition}
 use Rattle.expander_model.specs.declared.dialect.Dialect.{Dialect}
 use Rattle.expander_model.specs.declared.scope_rules.Standing.TheVariants.{Top, Argument}
@@ -60,9 +60,12 @@ module _ {D : Type 0} (dialect : Dialect) (world : World D) (local : Definition 
   abbrev WalksBy : Search D → Type 0
   WalksBy search = (around : Around) (f : Forest) → IsWalked (search around f)
 
-  abbrev WalksDeeper : Option (Search D) → Type 0
+  abbrev WalksFrom : Expander D → Type 0
+  WalksFrom expand = (d : D) (around : Around) (site : CallSite) → IsWalked (expand d around site).given
+
+  abbrev WalksDeeper : Option (Expander D) → Type 0
   WalksDeeper None = Unit {0}
-  WalksDeeper (Some search) = WalksBy search
+  WalksDeeper (Some expand) = WalksFrom expand
 
   walked_next : (a : Scoped D) (next : Around → Scoped D) (around : Around) → IsWalked a → ((here : Around) → IsWalked (next here)) → IsWalked (and_next a next around)
   walked_next a next around h more =
@@ -87,34 +90,37 @@ module _ {D : Type 0} (dialect : Dialect) (world : World D) (local : Definition 
   walked_fitted search all around site None = walked_trees around.outer site.whole
   walked_fitted search all around site (Some g) = all (record around { outer = Some (unwrap_or around.outer site.at) }) g
 
-  walked_level : (d : D) (deeper : Option (Search D)) → WalksDeeper deeper → (around : Around) (site : CallSite) → IsWalked (at_level dialect world local scope d deeper around site)
-  walked_level d None all around site = walked_trees around.outer site.whole
-  walked_level d (Some search) all around site =
+  walked_attempt : (search : Search D) → WalksBy search → WalksFrom (attempt dialect world local scope search)
+  walked_attempt search all d around site =
       let w = walked_fitted search all around site (world.fit d site.argument) in record { trees = w.trees; is = w.is }
 
-  walked_unbroken : (d : D) (b : Bool) (deeper : Option (Search D)) → WalksDeeper deeper → (around : Around) (site : CallSite)
+  walked_level : (d : D) (deeper : Option (Expander D)) → WalksDeeper deeper → (around : Around) (site : CallSite) → IsWalked (at_level dialect world local scope d deeper around site)
+  walked_level d None all around site = walked_trees around.outer site.whole
+  walked_level d (Some expand) all around site = all d around site
+
+  walked_unbroken : (d : D) (b : Bool) (deeper : Option (Expander D)) → WalksDeeper deeper → (around : Around) (site : CallSite)
       → IsWalked (unbroken dialect world local scope d b deeper around site)
   walked_unbroken d true deeper all around site = walked_trees around.outer site.whole
   walked_unbroken d false deeper all around site = walked_level d deeper all around site
 
-  walked_looked_up : (r : Option D) (deeper : Option (Search D)) → WalksDeeper deeper → (around : Around) (site : CallSite) (kept : Scoped D) → IsWalked kept
+  walked_looked_up : (r : Option D) (deeper : Option (Expander D)) → WalksDeeper deeper → (around : Around) (site : CallSite) (kept : Scoped D) → IsWalked kept
       → IsWalked (looked_up dialect world local scope r deeper around site kept)
   walked_looked_up None deeper all around site kept h = h
   walked_looked_up (Some d) deeper all around site kept h = walked_unbroken d (world.broken d) deeper all around site
 
-  walked_key : (r : Option Definition) (key : List ℕ) (deeper : Option (Search D)) → WalksDeeper deeper → (around : Around) (site : CallSite) (kept : Scoped D) → IsWalked kept
+  walked_key : (r : Option Definition) (key : List ℕ) (deeper : Option (Expander D)) → WalksDeeper deeper → (around : Around) (site : CallSite) (kept : Scoped D) → IsWalked kept
       → IsWalked (at_key dialect world local scope r key deeper around site kept)
   walked_key (Some d) key deeper all around site kept h = walked_looked_up (Some (local d)) deeper all around site kept h
   walked_key None key deeper all around site kept h =
       let w = walked_looked_up (scope key) deeper all around site kept h in record { trees = w.trees; is = w.is }
 
-  walked_call : (path : Path) (name : Ident) (deeper : Option (Search D)) → WalksDeeper deeper → (around : Around) (site : CallSite) (kept : Scoped D) → IsWalked kept
+  walked_call : (path : Path) (name : Ident) (deeper : Option (Expander D)) → WalksDeeper deeper → (around : Around) (site : CallSite) (kept : Scoped D) → IsWalked kept
       → IsWalked (at_call dialect world local scope deeper around path name site kept)
   walked_call bare name deeper all around site kept h = walked_key (nearest around.locals name.sym) name.sym deeper all around site kept h
   walked_call (from_crate root p q) name deeper all around site kept h = walked_key None (key_of (from_crate root p q) name) deeper all around site kept h
   walked_call (other p q) name deeper all around site kept h = h
 
-  module _ (search : Search D) (all : WalksBy search) (deeper : Option (Search D)) (below : WalksDeeper deeper) where
+  module _ (search : Search D) (all : WalksBy search) (deeper : Option (Expander D)) (below : WalksDeeper deeper) where
     walked_kept : (around : Around) (path : Path) (name : Ident) (bang : Punct) (d : Delimiter) (inner : Forest)
         → IsWalked (kept_call dialect world local scope search around path name bang d inner)
     walked_kept around path name bang d inner =
@@ -137,8 +143,8 @@ module _ {D : Type 0} (dialect : Dialect) (world : World D) (local : Definition 
         walked_next (in_brackets around.outer d (search inner (unmarked a))) (λ here. search_trees dialect world local scope search deeper (after_group s d.kind) here rest)
         around (walked_group around.outer d (search inner (unmarked a)).outcome (all inner (unmarked a))) (λ here. walked_search (after_group s d.kind) here rest)
     walked_search s around (call path name bang d a rest) =
-        let behind_it : Begun = after_call (takes_end dialect world local scope deeper s around path name d (unmarked a)) s d.kind in
-        let site : CallSite = record { at = name.span; whole = whole_call path name bang d (unmarked a); argument = unmarked a } in
+        let site : CallSite = call_site path name bang d (unmarked a) in
+        let behind_it : Begun = after_call (takes_end dialect world local scope deeper s around path name d site) s d.kind in
         let kept : Scoped D = kept_call dialect world local scope search around path name bang d (unmarked a) in
         walked_next (at_call dialect world local scope deeper around path name site kept) (λ here. search_trees dialect world local scope search deeper behind_it here rest)
         around (walked_call path name deeper below around site kept (walked_kept around path name bang d (unmarked a))) (λ here. walked_search behind_it here rest)
@@ -154,7 +160,7 @@ module _ {D : Type 0} (dialect : Dialect) (world : World D) (local : Definition 
         walked_next (search_piece dialect world local scope search deeper around p (kind_in dialect around.standing p)) (λ here. search_pieces dialect world local scope search deeper here ps)
         around (walked_part around p (kind_in dialect around.standing p)) (λ here. walked_parts here ps)
 
-  walked_list : (deeper : Option (Search D)) → WalksDeeper deeper → (n : ℕ) → WalksBy (search_list dialect world local scope deeper n)
+  walked_list : (deeper : Option (Expander D)) → WalksDeeper deeper → (n : ℕ) → WalksBy (search_list dialect world local scope deeper n)
   walked_list deeper below zero around f = walked_trees around.outer empty
   walked_list deeper below (suc n) around f =
       walked_parts (search_list dialect world local scope deeper n) (walked_list deeper below n) deeper below around (cut f)
@@ -162,7 +168,9 @@ module _ {D : Type 0} (dialect : Dialect) (world : World D) (local : Definition 
   -- an expansion by scope rules puts out the walk of trees
   walked_scoped : (n : ℕ) → WalksBy (scoped dialect world local scope n)
   walked_scoped zero around f = walked_list None tt (suc (size f)) around f
-  walked_scoped (suc n) around f = walked_list (Some (scoped dialect world local scope n)) (walked_scoped n) (suc (size f)) around f
+  walked_scoped (suc n) around f =
+      let search : Search D = scoped dialect world local scope n in
+      walked_list (Some (attempt dialect world local scope search)) (walked_attempt search (walked_scoped n)) (suc (size f)) around f
 
 -- so do the members of a text, one after another
 module _ (layers : Layers) (depth : ℕ) where

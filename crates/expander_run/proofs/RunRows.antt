@@ -15,7 +15,7 @@ use Rattle.expander_model.specs.Definitions.{Definition, definition_of, nearest}
 use Rattle.expander_model.specs.Expansion.{World, Outcome, CallSite, just, faulted, whole_call}
 use Rattle.expander_session.specs.Replies.{NeedsNumbers}
 use Rattle.expander_model.specs.Meaning.{Layers, member, members_after, with_definition}
-use Rattle.expander_model.specs.Scoping.{Around, Scoped, Search, PieceKind, out_piece, definition_piece, plain_piece, found_in, kind_in, is_left_out, in_group, behind, without_locals, and_next, in_brackets, defined, unbroken, looked_up, at_key, at_call, kept_call, search_leaf, takes_end, search_trees, search_piece, search_pieces, search_list}
+use Rattle.expander_model.specs.Scoping.{call_site, Around, Scoped, Search, PieceKind, out_piece, definition_piece, plain_piece, found_in, kind_in, is_left_out, in_group, behind, without_locals, and_next, in_brackets, defined, unbroken, looked_up, at_key, at_call, kept_call, search_leaf, takes_end, search_trees, search_piece, search_pieces, search_list}
 use Rattle.expander_model.specs.PieceStates.{after_call, after_group, after_leaf}
 use Rattle.expander_model.specs.Pieces.{cut}
 use Rattle.expander_model.specs.declared.begun.Begun.{Begun}
@@ -176,8 +176,8 @@ module _ (dialect : Dialect) (world : World Definition) (local : Definition → 
         small_next (in_brackets around.outer d (search inner (unmarked a))) (λ here. search_trees dialect world local scope search None (after_group s d.kind) here rest)
         around (all inner (unmarked a)) (λ here. small_trees (after_group s d.kind) here rest)
     small_trees s around (call path name bang d a rest) =
-        let behind_it : Begun = after_call (takes_end dialect world local scope None s around path name d (unmarked a)) s d.kind in
-        let site : CallSite = record { at = name.span; whole = whole_call path name bang d (unmarked a); argument = unmarked a } in
+        let site : CallSite = call_site path name bang d (unmarked a) in
+        let behind_it : Begun = after_call (takes_end dialect world local scope None s around path name d site) s d.kind in
         let kept : Scoped Definition = kept_call dialect world local scope search around path name bang d (unmarked a) in
         small_next (at_call dialect world local scope None around path name site kept) (λ here. search_trees dialect world local scope search None behind_it here rest)
         around (small_call path name around site kept (small_kept around path name bang d (unmarked a))) (λ here. small_trees behind_it here rest)
