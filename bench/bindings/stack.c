@@ -1,5 +1,5 @@
-/* How much call stack a text takes: stack GRAMMAR EDITION DEPTH <TEXT. Opens it, expands it, asks all of the answer and
- * closes it, each on a thread with a stack of its own. Prints for each call how many
+/* How much call stack a text takes: stack GRAMMAR EDITION DEPTH <TEXT. Opens it, expands it, asks all of the answer,
+ * closes it, and hands it over as a word for `cfg`, each on a thread with a stack of its own. Prints for each call how many
  * bytes of it were written, and the code that expanding answered. */
 #define _GNU_SOURCE
 #include "expander.h"
@@ -22,6 +22,15 @@ static void *nothing(void *unused) {
 }
 static void *opened(void *unused) {
     code = expander_open(&session, text, len, edition, depth, grammar);
+    return unused;
+}
+/* The text as a word for `cfg`. */
+static void *named(void *unused) {
+    const struct expander_options options = {edition, grammar, EXPANDER_SCOPE_RUST, depth};
+    const struct expander_word words[] = {{"unix", 4}, {text, len}};
+    struct expander_session other = EXPANDER_SESSION_INIT;
+    expander_open_cfg(&other, "", 0, &options, words, 2);
+    expander_close(&other);
     return unused;
 }
 static void *edited(void *unused) {
@@ -73,6 +82,7 @@ int main(int argc, char **argv) {
         if (room - len == n) text = realloc(text, room *= 2);
     size_t none = used(nothing), open = used(opened) - none, edit = used(edited) - none;
     size_t expand = used(expanded) - none, again = code, ask = used(asked) - none, close = used(closed) - none;
-    printf("open %zu edit %zu expand %zu ask %zu close %zu code %zu\n", open, edit, expand, ask, close, again);
+    size_t name = used(named) - none;
+    printf("open %zu edit %zu expand %zu ask %zu close %zu cfg %zu code %zu\n", open, edit, expand, ask, close, name, again);
     return 0;
 }

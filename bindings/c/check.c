@@ -1,5 +1,5 @@
 /* Checks of the C interface: the row of the README, every code that a text of this size can bring about but MEMORY,
- * and random edits of one session against fresh sessions, by both rules of scopes. */
+ * and random edits of one session against fresh sessions, by both rules of scopes, with and without options for `cfg`. */
 #define _GNU_SOURCE
 #include "expander.h"
 #include <stdbool.h>
@@ -97,6 +97,76 @@ static void scopes(void) {
         SAME(counts.faults, 1);
         expander_close(&s);
     }
+}
+
+static uint32_t open_cfg(struct expander_session *s, const char *text, const char *const *named, size_t n) {
+    const struct expander_options options = {2024, EXPANDER_GRAMMAR_RUST, EXPANDER_SCOPE_RUST, 128};
+    struct expander_word words[4];
+    for (size_t i = 0; i < n; i++) words[i].bytes = named[i], words[i].len = strlen(named[i]);
+    return expander_open_cfg(s, text, strlen(text), &options, n ? words : NULL, n);
+}
+
+/* What a session prints. */
+static void prints(struct expander_session *s, const char *wanted) {
+    struct expander_counts counts = {0, 0, 0, 0};
+    char room[128] = "";
+    SAME(expander_expand(s), EXPANDER_OK);
+    SAME(expander_counts(s, &counts), EXPANDER_OK);
+    SAME(counts.printed, strlen(wanted));
+    SAME(expander_printed(s, room, sizeof room), EXPANDER_OK);
+    if (strcmp(room, wanted)) printf("%s is printed, not %s\n", room, wanted), failures++;
+}
+
+/* Of two definitions that whose option is set is used, and of an item what has to be set. */
+static void conditions(void) {
+    const char *text = "#[cfg(unix)] macro_rules! m { () => { 1 } } #[cfg(not(unix))] macro_rules! m { () => { 2 } } "
+                       "#[cfg(a = \"b\")] fn f() {} m!{}";
+    const char *item = "# [ cfg ( a = \"b\" ) ] fn f ( ) { }\n";
+    const char *words[] = {"unix", " a /* and */ = r\"b\" ", "unix", "test"};
+    char all[128];
+    struct expander_session s = EXPANDER_SESSION_INIT;
+    struct expander_source_told told = {0, {0, {0, 0}}};
+    struct expander_pick pick = {1, EXPANDER_ALL};
+    SAME(open_cfg(&s, text, NULL, 0), EXPANDER_OK);
+    prints(&s, "2\n");
+    SAME(open_cfg(&s, text, words, 1), EXPANDER_OK);
+    prints(&s, "1\n");
+    SAME(open_cfg(&s, text, words, 4), EXPANDER_OK);
+    snprintf(all, sizeof all, "%s1\n", item);
+    prints(&s, all);
+
+    /* The set stays, and holds for definitions of sources too. */
+    SAME(expander_edit(&s, 0, strlen(text), "p!{}", 4), EXPANDER_OK);
+    const char *source = "macro_rules! p { () => { 3 } } #[cfg(not(test))] macro_rules! p { () => { 4 } }";
+    SAME(expander_source(&s, 1, NULL, 0, 0, source, strlen(source), &told), EXPANDER_OK);
+    SAME(expander_prelude(&s, &pick, 1), EXPANDER_OK);
+    prints(&s, "3\n");
+
+    /* A word that names none changes nothing. */
+    const char *const wrong[] = {"", "a b", "a=b", "a=1", "a=", "_", "fn", "a=\"b\" c", "a(", "a=b\"c\"", "--cfg"};
+    for (size_t i = 0; i < sizeof wrong / sizeof *wrong; i++) {
+        const char *both[] = {"unix", wrong[i]};
+        SAME(open_cfg(&s, text, both, 2), EXPANDER_CFG);
+        SAME(open_cfg(&s, text, wrong + i, 1), EXPANDER_CFG);
+    }
+    const char *const bytes[] = {"unix", "\xff"};
+    SAME(open_cfg(&s, text, bytes, 2), EXPANDER_UTF8);
+    const struct expander_options options = {2024, EXPANDER_GRAMMAR_RUST, 2, 128};
+    const struct expander_word null[] = {{"unix", 4}, {NULL, 0}};
+    SAME(expander_open_cfg(&s, "a", 1, &options, null, 1), EXPANDER_SCOPE);
+    SAME(expander_open_cfg(&s, "a", 1, &options, null, 2), EXPANDER_NULL);
+    SAME(expander_open_cfg(&s, "a", 1, &options, NULL, 1), EXPANDER_NULL);
+    SAME(expander_open_cfg(&s, "a", 1, NULL, null, 1), EXPANDER_NULL);
+    SAME(expander_open_cfg(&s, NULL, 1, &options, null, 1), EXPANDER_NULL);
+    SAME(expander_open_cfg(NULL, "a", 1, &options, null, 1), EXPANDER_NULL);
+    prints(&s, "3\n");
+
+    /* Without a set each condition holds. */
+    const struct expander_options plain = {2024, EXPANDER_GRAMMAR_RUST, EXPANDER_SCOPE_RUST, 128};
+    SAME(expander_open_with(&s, text, strlen(text), &plain), EXPANDER_OK);
+    snprintf(all, sizeof all, "%s2\n", item);
+    prints(&s, all);
+    expander_close(&s);
 }
 
 static void codes(void) {
@@ -309,17 +379,24 @@ static size_t told(struct expander_session *s, uint8_t *into) {
     return n;
 }
 
-static void random_edits(int count, uint32_t scope) {
+/* A session by these rules of scopes, under options for `cfg` if so. */
+static uint32_t open_by(struct expander_session *s, const char *text, size_t len, uint32_t scope, bool is_under) {
     const struct expander_options options = {2024, EXPANDER_GRAMMAR_RUST, scope, 128};
+    const struct expander_word words[] = {{"a", 1}, {"c = \"d\"", 7}};
+    return is_under ? expander_open_cfg(s, text, len, &options, words, 2) : expander_open_with(s, text, len, &options);
+}
+
+static void random_edits(int count, uint32_t scope, bool is_under) {
     static const char *const parts[] = {"x", " y", "(", ")", "{", "}", "p!{ x y }", "'a", "\"s\"", "1.0", ";", "\xc3\xa9", "//c\n",
         "/// d\n", "macro_rules! q { ($($t:tt)*) => { $($t)* } }\n", "q!{ p!{ a b } }\n",
-        "{ macro_rules! p { ($x:tt $y:tt) => { $y } } p!{ c d } }\n", "$", "#", "::", " "};
+        "{ macro_rules! p { ($x:tt $y:tt) => { $y } } p!{ c d } }\n", "$", "#", "::", " ", "#[cfg(a)] ", "#[cfg(not(a))] ",
+        "#[cfg(b)] macro_rules! p { ($($t:tt)*) => { no } }\n", "#[cfg_attr(c = \"d\", cfg(b))] "};
     static _Alignas(8) uint8_t one[1 << 20], other[1 << 20];
     static char text[1 << 16], good[1 << 16];
     struct expander_session s = EXPANDER_SESSION_INIT;
     int read = 0;
     bool is_read = true;
-    SAME(expander_open_with(&s, TEXT "\n", strlen(TEXT "\n"), &options), EXPANDER_OK);
+    SAME(open_by(&s, TEXT "\n", strlen(TEXT "\n"), scope, is_under), EXPANDER_OK);
     for (int i = 0; i < count; i++) {
         size_t len;
         SAME(expander_text(&s, text, sizeof text, &len), EXPANDER_OK);
@@ -336,7 +413,7 @@ static void random_edits(int count, uint32_t scope) {
         size_t n = told(&s, one);
         SAME(expander_text(&s, text, sizeof text, &len), EXPANDER_OK);
         struct expander_session fresh = EXPANDER_SESSION_INIT;
-        SAME(expander_open_with(&fresh, text, len, &options), EXPANDER_OK);
+        SAME(open_by(&fresh, text, len, scope, is_under), EXPANDER_OK);
         SAME(told(&fresh, other), n);
         SAME(memcmp(one, other, n), 0);
         is_read = one[0] == EXPANDER_OK, read += is_read;
@@ -351,10 +428,11 @@ int main(int argc, char **argv) {
     the_row();
     grammars();
     scopes();
+    conditions();
     codes();
     sources();
-    for (uint32_t scope = EXPANDER_SCOPE_TOP; scope <= EXPANDER_SCOPE_RUST; scope++)
-        random_edits(argc > 1 ? atoi(argv[1]) : 1000, scope);
+    for (int way = 0; way < 4; way++)
+        random_edits(argc > 1 ? atoi(argv[1]) : 1000, way % 2 ? EXPANDER_SCOPE_RUST : EXPANDER_SCOPE_TOP, way > 1);
     if (failures) printf("%d failures\n", failures);
     return failures != 0;
 }

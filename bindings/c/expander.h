@@ -17,10 +17,11 @@
  *   - The memory is there, and initialised, until the call returns: room that is only written to as well,
  *     with anything, as by calloc. No call keeps a pointer that it is passed, and none hands one out.
  *   - It is aligned as C aligns its type: bytes anywhere, numbers, ranges, faults, picks and options at 4,
- *     sessions, counts, lengths and what is told of a source at 8.
- *   - No two pointers of a call overlap, and nobody else writes what they are to during the call, nor
- *     reads what it writes. No element is read or written beyond the length that is said.
- *   - A pointer with a length may be NULL if the length is 0. Any other pointer that is NULL is refused.
+ *     sessions, counts, lengths, words and what is told of a source at 8.
+ *   - No two pointers of a call overlap, but words may share bytes. Nobody else writes what they are to during
+ *     the call, nor reads what it writes. No element is read or written beyond the length that is said.
+ *   - A pointer with a length may be NULL if the length is 0, but that of a word. Any other pointer that is NULL
+ *     is refused.
  *
  * Answers. Texts are copied in, and answers are copied out into room that the caller provides. An answer
  * stays until the next expander_expand that gives one; edits leave it.
@@ -89,7 +90,8 @@ enum expander_code {
     EXPANDER_NULL = 15,    /* a pointer is NULL, and not to be */
     EXPANDER_ROOT = 16,    /* the word cannot stand for a crate */
     EXPANDER_SOURCE = 17,  /* there is no source of this number, or, of number 0, there can be none */
-    EXPANDER_SCOPE = 18    /* there are no such rules of scopes */
+    EXPANDER_SCOPE = 18,   /* there are no such rules of scopes */
+    EXPANDER_CFG = 19      /* a word names no option for conditional compilation */
 };
 
 /* What fragments such as `$e:expr` take. The grammar of Rust, in the edition of the session, knows all
@@ -128,6 +130,13 @@ struct expander_options {
     uint8_t depth;
 };
 
+/* A word of a list, of `len` bytes of UTF-8. It names an option for conditional compilation, as after `--cfg` of rustc:
+ * `NAME`, or `NAME="VALUE"` with a string of Rust. Blanks and comments around these do not count. */
+struct expander_word {
+    const void *bytes;
+    size_t len;
+};
+
 /* The bytes of a text from `start` up to, but not including, `end`. */
 struct expander_range {
     uint32_t start, end;
@@ -164,6 +173,8 @@ struct expander_pick {
  * is then any that is aligned. C callers use the functions below, which test that. */
 uint32_t expander_raw_open(struct expander_session *, const uint8_t *, size_t, uint32_t, uint8_t, uint32_t);
 uint32_t expander_raw_open_with(struct expander_session *, const uint8_t *, size_t, const struct expander_options *);
+uint32_t expander_raw_open_cfg(struct expander_session *, const uint8_t *, size_t, const struct expander_options *,
+                               const struct expander_word *, size_t);
 void expander_raw_close(struct expander_session *);
 uint32_t expander_raw_text(struct expander_session *, uint8_t *, size_t, size_t *);
 uint32_t expander_raw_is_boundary(struct expander_session *, size_t);
@@ -195,12 +206,28 @@ static inline uint32_t expander_open(struct expander_session *s, const void *tex
     return expander_raw_open(s, text ? (const uint8_t *)text : (const uint8_t *)"", len, edition, depth, grammar);
 }
 
-/* The same by all options: `options` is to one struct, which is only read.
- * OK, EDITION, GRAMMAR, SCOPE, LENGTH, UTF8, MEMORY, NULL. */
+/* The same by all options: `options` is to one struct, which is only read. `cfg` is not evaluated: nothing is left
+ * out. OK, EDITION, GRAMMAR, SCOPE, LENGTH, UTF8, MEMORY, NULL. */
 static inline uint32_t expander_open_with(struct expander_session *s, const void *text, size_t len,
                                           const struct expander_options *options) {
     if (!s || !options || (!text && len)) return EXPANDER_NULL;
     return expander_raw_open_with(s, text ? (const uint8_t *)text : (const uint8_t *)"", len, options);
+}
+
+/* The same, and `cfg` is evaluated: exactly the options that the words name are set, for as long as the session is
+ * open. Definitions, and whole items in lists of items, whose `cfg` is then false are left out, those of sources too;
+ * docs/GUIDE.md says which items are whole. `words` is to `n` structs, each to bytes, which are only read; with none
+ * no option is set, so that what needs one is left out.
+ * OK, EDITION, GRAMMAR, SCOPE, CFG, LENGTH, UTF8, TOKENS (of a word), MEMORY, NULL. */
+static inline uint32_t expander_open_cfg(struct expander_session *s, const void *text, size_t len,
+                                         const struct expander_options *options, const struct expander_word *words,
+                                         size_t n) {
+    struct expander_word none = {"", 0};
+    if (!s || !options || (!text && len) || (!words && n)) return EXPANDER_NULL;
+    for (size_t i = 0; i < n; i++)
+        if (!words[i].bytes) return EXPANDER_NULL;
+    return expander_raw_open_cfg(s, text ? (const uint8_t *)text : (const uint8_t *)"", len, options,
+                                 words ? words : &none, n);
 }
 
 /* Closes the session and frees all that it holds. Nothing happens if there is none. */

@@ -42,7 +42,7 @@ void __wrap_free(void *p) {
 
 /* ---- the script */
 
-/* OPEN opens by the rules of scopes `start`. SOURCE reads a source of number `start`, of the crate `std` if `end` is not 0; PRELUDE picks all of that number. */
+/* OPEN opens by the rules of scopes `start`, if `end` is not 0 under options for `cfg`. SOURCE reads a source of number `start`, of the crate `std` if `end` is not 0; PRELUDE picks all of that number. */
 enum call { OPEN, EDIT, EXPAND, SOURCE, PRELUDE };
 struct step {
     enum call call;
@@ -73,6 +73,10 @@ static const struct step script[] = {
     {EXPAND, 0, 0, ""},
     {OPEN, 0, 0, ""},
     {EXPAND, 0, 0, ""},
+    {OPEN, EXPANDER_SCOPE_RUST, 1, "#[cfg(unix)] macro_rules! m { () => { 1 } } #[cfg(not(a = \"b\"))] fn f() { m!{} } m!{}"},
+    {EXPAND, 0, 0, ""},
+    {EDIT, 6, 10, "test"},
+    {EXPAND, 0, 0, ""},
     {OPEN, 0, 0, "v!(1); w!(2);"},
     {SOURCE, 1, 1, "macro_rules! v { ($x:tt) => { $crate::u!($x) } } mod m { macro_rules! u { ($x:tt) => { $crate $x } } }"},
     {SOURCE, 2, 0, "macro w($x:tt) { $x \"w\" }"},
@@ -90,8 +94,11 @@ static uint32_t make(struct expander_session *s, const struct step *it) {
     struct expander_source_told told = {0, {0, {0, 0}}};
     struct expander_pick all = {(uint32_t)it->start, EXPANDER_ALL};
     struct expander_options options = {2024, EXPANDER_GRAMMAR_RUST, (uint32_t)it->start, 128};
+    const struct expander_word words[] = {{"unix", 4}, {"a = \"b\\n\"", 9}, {"unix", 4}};
     switch (it->call) {
-    case OPEN: return expander_open_with(s, it->text, len, &options);
+    case OPEN:
+        if (it->end) return expander_open_cfg(s, it->text, len, &options, words, 3);
+        return expander_open_with(s, it->text, len, &options);
     case EDIT: return expander_edit(s, it->start, it->end, it->text, len);
     case SOURCE: return expander_source(s, all.source, "std", it->end ? 3 : 0, 2018, it->text, len, &told);
     case PRELUDE: return expander_prelude(s, &all, 1);

@@ -70,6 +70,30 @@ def scopes():
     assert refusal(never._call, "open_with", b"", 0, ctypes.byref(options)) == Code.SCOPE
 
 
+CONDITIONS = "#[cfg(unix)] macro_rules! m { () => { 1 } } #[cfg(not(unix))] macro_rules! m { () => { 2 } } "
+CONDITIONS += '#[cfg(a = "b")] fn f() {} m!{}'
+
+
+def conditions():
+    item = '# [ cfg ( a = "b" ) ] fn f ( ) { }\n'
+    rows = [(None, item + "2\n"), ((), "2\n"), (["unix"], "1\n"), (iter(["unix", ' a = r"b" ', "unix"]), item + "1\n")]
+    for cfg, printed in rows:
+        assert Session(CONDITIONS, scope="rust", cfg=cfg).expand().printed == printed
+    for bad in ("", "a b", "a=b", "a=1", "_", "fn", "a(", "--cfg", "a\0"):
+        assert raises(ValueError, Session, CONDITIONS, cfg=["unix", bad])
+    assert all(raises(TypeError, Session, "a", cfg=bad) for bad in ("unix", b"unix", [b"unix"], 1, True, [None]))
+    assert raises(UnicodeEncodeError, Session, "a", cfg=["\ud800"])
+    session = Session("p!{}", cfg=["test"])
+    session.source(1, "macro_rules! p { () => { 3 } } #[cfg(not(test))] macro_rules! p { () => { 4 } }")
+    session.prelude([1])
+    assert session.expand().printed == "3\n"
+    never, options = Session.__new__(Session), expander._Options(2024, Grammar.RUST, 1, 128)
+    arguments = b"", 0, ctypes.byref(options)
+    assert refusal(never._call, "open_cfg", *arguments, *expander._words("cfg", ["a="])) == Code.CFG
+    word = (expander._Word * 1)((b"\xff", 1))
+    assert refusal(never._call, "open_cfg", *arguments, word, 1) == Code.UTF8
+
+
 def codes():
     assert refusal(Session, "a", 2020) == Code.EDITION
     assert refusal(Session, "a", 2024, 128, 2) == Code.GRAMMAR
@@ -354,7 +378,7 @@ def random_edits(count):
     assert read >= count // 3
 
 
-for check in (the_row, grammars, scopes, codes, sources, items, numbers, once, shared, meanwhile, within, left):
+for check in (the_row, grammars, scopes, conditions, codes, sources, items, numbers, once, shared, meanwhile, within, left):
     check()
 random_edits(int(sys.argv[1]) if len(sys.argv) > 1 else 1000)
 sys.exit(doctest.testmod(expander).failed)

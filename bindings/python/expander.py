@@ -45,6 +45,7 @@ class Code(IntEnum):
     ROOT = 16
     SOURCE = 17
     SCOPE = 18
+    CFG = 19
 
 
 class Grammar(IntEnum):
@@ -289,6 +290,10 @@ class _Options(ctypes.Structure):
     _fields_ += [("depth", ctypes.c_uint8)]
 
 
+class _Word(ctypes.Structure):
+    _fields_ = [("bytes", ctypes.c_char_p), ("length", ctypes.c_size_t)]
+
+
 class _Counts(ctypes.Structure):
     _fields_ = [(name, ctypes.c_size_t) for name in ("printed", "tokens", "faults", "expanded")]
 
@@ -300,6 +305,7 @@ def _load() -> ctypes.CDLL:
     text, numbers = ctypes.c_char_p, ctypes.c_void_p
     for name, arguments in {
         "open_with": [text, size, ctypes.POINTER(_Options)],
+        "open_cfg": [text, size, ctypes.POINTER(_Options), ctypes.POINTER(_Word), size],
         "close": [],
         "text": [text, size, ctypes.POINTER(size)],
         "is_boundary": [size],
@@ -359,6 +365,16 @@ def _scope(name: str) -> int:
     return _SCOPES[name]
 
 
+def _words(name: str, words: Iterable[str]) -> tuple[ctypes.Array[_Word], int]:
+    """Words as the library takes a list, and how many there are."""
+    if isinstance(words, str):
+        raise TypeError(f"{name} is one str, and not several")
+    data = [str.encode(word) for word in words]
+    # Never room for none, which may have no address.
+    room = (_Word * max(len(data), 1))(*((word, len(word)) for word in data))
+    return room, len(data)
+
+
 class Session:
     """A text that may be edited and expanded.
 
@@ -369,6 +385,15 @@ class Session:
     >>> with Session("fn f() { macro_rules! m { () => { 1 } } m!() }", scope="rust") as session:
     ...     session.expand().printed
     'fn f ( ) { 1 }\\n'
+
+    By `cfg`, words as after `--cfg` of rustc, options are set for conditional compilation: `NAME`, or
+    `NAME="VALUE"` with a string of Rust. Definitions, and whole items in lists of items, whose `cfg` is
+    then false are left out, those of sources too. By None nothing is left out. A word that names no
+    option raises ValueError.
+
+    >>> with Session("#[cfg(a)] mod m {} #[cfg(not(a))] mod n {}", cfg=["a"]) as session:
+    ...     session.expand().printed
+    '# [ cfg ( a ) ] mod m { }\\n'
 
     Threads may share a session. One call of it runs at a time, and that of another thread waits,
     `close` too. A call that begins within another of its own thread, as in a signal handler, raises
@@ -397,15 +422,29 @@ class Session:
         depth: int = 128,
         grammar: int = Grammar.RUST,
         scope: str = "top",
+        cfg: Iterable[str] | None = None,
     ) -> None:
         data = str.encode(text)
         edition, depth = _number("edition", edition, 32), _number("depth", depth, 8)
         options = _Options(edition, _number("grammar", grammar, 32), _scope(scope), depth)
+        given = (data, len(data), ctypes.byref(options))
+        words = None if cfg is None else _words("cfg", cfg)
         with self._turn():
             if self._is_begun:
                 raise RuntimeError("a session is opened once")
             self._is_begun = True
-            self._call("open_with", data, len(data), ctypes.byref(options))
+            if words is None:
+                self._call("open_with", *given)
+            else:
+                self._open_cfg(*given, *words)
+
+    def _open_cfg(self, *arguments: object) -> None:
+        try:
+            self._call("open_cfg", *arguments)
+        except Refused as refused:
+            if refused.code == Code.CFG:
+                raise ValueError("a word of cfg names no option") from None
+            raise
 
     def __reduce_ex__(self, protocol: object) -> NoReturn:
         raise TypeError("a session can be neither copied nor pickled: open one over its text")

@@ -23,6 +23,8 @@ pub enum Error {
     Root,
     /// There is no source of this number, or, of number 0, there can be none.
     Source,
+    /// A word names no option for conditional compilation.
+    Cfg,
 }
 
 impl fmt::Display for Error {
@@ -37,6 +39,7 @@ impl fmt::Display for Error {
             Error::Index => "a source has no definition of this index",
             Error::Root => "the word cannot stand for a crate",
             Error::Source => "there is no source of this number",
+            Error::Cfg => "a word names no option for conditional compilation",
         })
     }
 }
@@ -56,6 +59,7 @@ pub(crate) fn checked(code: u32) -> Result<(), Error> {
         13 => Error::Index,
         16 => Error::Root,
         17 => Error::Source,
+        19 => Error::Cfg,
         _ => unreachable!("code {code}"),
     })
 }

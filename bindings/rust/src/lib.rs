@@ -56,20 +56,24 @@ pub enum Scope {
 }
 
 /// What a session is opened with. By default that is the grammar of Rust, edition 2024, the scope of
-/// the top level, and 128 levels of calls.
+/// the top level, 128 levels of calls, and no evaluation of `cfg`.
 #[derive(Clone, Copy, Debug, PartialEq, Eq, Hash)]
-pub struct Options {
+pub struct Options<'a> {
     pub grammar: Grammar,
     pub edition: Edition,
     pub scope: Scope,
     /// How many levels of calls are expanded.
     pub depth: u8,
+    /// The options that are set for conditional compilation, each as after `--cfg` of rustc: `NAME`,
+    /// or `NAME="VALUE"` with a string of Rust. Definitions, and whole items in lists of items, whose
+    /// `cfg` is then false are left out, those of sources too. With `None` nothing is left out.
+    pub cfg: Option<&'a [&'a str]>,
 }
 
-impl Default for Options {
-    fn default() -> Options {
+impl Default for Options<'_> {
+    fn default() -> Self {
         let (grammar, scope) = (Grammar::default(), Scope::default());
-        Options { grammar, edition: Edition::Edition2024, scope, depth: 128 }
+        Options { grammar, edition: Edition::Edition2024, scope, depth: 128, cfg: None }
     }
 }
 
@@ -254,15 +258,40 @@ impl Session {
     /// assert_eq!(expansion.printed(), "fn f ( ) { 1 }\n");
     /// # Ok::<(), filgordd::Error>(())
     /// ```
-    pub fn with_options(text: &str, options: Options) -> Result<Session, Error> {
+    ///
+    /// Of these two definitions the one whose option is set is used:
+    ///
+    /// ```
+    /// # use filgordd::{Error, Options, Reply, Session};
+    /// let text = "#[cfg(unix)] macro_rules! m { () => { 1 } } #[cfg(not(unix))] macro_rules! m { () => { 2 } } m!{}";
+    /// let mut session = Session::with_options(text, Options { cfg: Some(&["unix"]), ..Options::default() })?;
+    /// let Reply::Read(expansion) = session.expand()? else { panic!("it is read") };
+    /// assert_eq!(expansion.printed(), "1\n");
+    ///
+    /// let wrong = Session::with_options(text, Options { cfg: Some(&["unix", "a = b"]), ..Options::default() });
+    /// assert_eq!(wrong.err(), Some(Error::Cfg));
+    /// # Ok::<(), Error>(())
+    /// ```
+    pub fn with_options(text: &str, options: Options<'_>) -> Result<Session, Error> {
         let held = std::ptr::null_mut();
         let raw = UnsafeCell::new(sys::Session { held });
         let session = Session { raw };
         let (edition, grammar) = (options.edition as u32, options.grammar as u32);
-        let options = sys::Options { edition, grammar, scope: options.scope as u32, depth: options.depth };
-        // SAFETY: the struct holds no session, the bytes are those of a `&str`, and the options are there.
-        checked(unsafe {
-            sys::expander_raw_open_with(session.at(), text.as_ptr(), text.len(), &options)
+        let (cfg, scope, depth) = (options.cfg, options.scope as u32, options.depth);
+        let options = sys::Options { edition, grammar, scope, depth };
+        let (at, len) = (text.as_ptr(), text.len());
+        checked(match cfg {
+            // SAFETY: the struct holds no session, the bytes are those of a `&str`, and the options are there.
+            None => unsafe { sys::expander_raw_open_with(session.at(), at, len, &options) },
+            Some(words) => {
+                let words: Vec<sys::Word> = (words.iter())
+                    .map(|it| sys::Word { bytes: it.as_ptr(), len: it.len() })
+                    .collect();
+                // SAFETY: as above, and there are as many words as are said, each of the bytes of a `&str`.
+                unsafe {
+                    sys::expander_raw_open_cfg(session.at(), at, len, &options, words.as_ptr(), words.len())
+                }
+            }
         })?;
         Ok(session)
     }

@@ -51,12 +51,27 @@ pub struct Options {
     pub depth: u8,
 }
 
+#[repr(C)]
+#[derive(Clone, Copy, Debug)]
+pub struct Word {
+    pub bytes: *const u8,
+    pub len: usize,
+}
+
 unsafe extern "C" {
     pub fn expander_raw_open_with(
         s: *mut Session,
         text: *const u8,
         len: usize,
         options: *const Options,
+    ) -> u32;
+    pub fn expander_raw_open_cfg(
+        s: *mut Session,
+        text: *const u8,
+        len: usize,
+        options: *const Options,
+        words: *const Word,
+        count: usize,
     ) -> u32;
     pub fn expander_raw_close(s: *mut Session);
     pub fn expander_raw_text(s: *mut Session, room: *mut u8, len: usize, wanted: *mut usize) -> u32;

@@ -52,6 +52,34 @@ fn scopes() {
     }
 }
 
+fn open_cfg(text: &str, cfg: Option<&[&str]>) -> Result<Session, Error> {
+    Session::with_options(text, Options { scope: Scope::Rust, cfg, ..Options::default() })
+}
+
+#[test]
+fn conditions() {
+    let text = "#[cfg(unix)] macro_rules! m { () => { 1 } } #[cfg(not(unix))] macro_rules! m { () => { 2 } } \
+        #[cfg(a = \"b\")] fn f() {} m!{}";
+    let item = "# [ cfg ( a = \"b\" ) ] fn f ( ) { }\n";
+    let rows: [(Option<&[&str]>, String); 4] = [
+        (None, format!("{item}2\n")),
+        (Some(&[]), "2\n".into()),
+        (Some(&["unix"]), "1\n".into()),
+        (Some(&["unix", " a = r\"b\" ", "unix"]), format!("{item}1\n")),
+    ];
+    for (cfg, wanted) in rows {
+        assert_eq!(read(&mut open_cfg(text, cfg).expect("it is opened")).printed(), wanted);
+    }
+    for wrong in ["", "a b", "a=b", "a=1", "_", "fn", "a(", "--cfg"] {
+        assert_eq!(open_cfg(text, Some(&["unix", wrong])).err(), Some(Error::Cfg));
+    }
+    let mut session = open_cfg("p!{}", Some(&["test"])).expect("it is opened");
+    let source = "macro_rules! p { () => { 3 } } #[cfg(not(test))] macro_rules! p { () => { 4 } }";
+    assert_eq!(session.source(1, None, source), Ok(Source::Read(2)));
+    session.prelude(&[Pick::All(1)]).expect("there is memory");
+    assert_eq!(read(&mut session).printed(), "3\n");
+}
+
 #[test]
 fn refusals() {
     let mut session = open("é;");
@@ -107,6 +135,9 @@ fn codes() {
         assert_eq!(sys::expander_raw_open_with(at, "a".as_ptr(), 1, &sys::Options { grammar: 2, ..options }), 9);
         assert_eq!(sys::expander_raw_open_with(at, "a".as_ptr(), 1, &sys::Options { scope: 2, ..options }), 18);
         assert_eq!(sys::expander_raw_open_with(at, b"\xff".as_ptr(), 1, &options), 6);
+        let words = [sys::Word { bytes: b"\xff".as_ptr(), len: 1 }, sys::Word { bytes: "a=".as_ptr(), len: 2 }];
+        assert_eq!(sys::expander_raw_open_cfg(at, "a".as_ptr(), 1, &options, words.as_ptr(), 2), 6);
+        assert_eq!(sys::expander_raw_open_cfg(at, "a".as_ptr(), 1, &options, &words[1], 1), 19);
         assert_eq!(session.text(), "a;");
         assert_eq!(sys::expander_raw_fits(at, 0, 0, usize::MAX), 7);
         assert_eq!(sys::expander_raw_edit(at, 0, 0, b"\xff".as_ptr(), 1), 6);

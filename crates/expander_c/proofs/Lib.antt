@@ -1,2 +1,3 @@
+pub mod ConditionLemmas
 pub mod CopyLemmas
 pub mod LiveBoxes

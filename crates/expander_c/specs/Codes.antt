@@ -3,7 +3,7 @@ use Rattle.std.specs.Prelude.{ℕ}
 use Rattle.expander_scope.specs.declared.refusal.Refusal.{Refusal}
 use Rattle.expander_scope.specs.declared.refusal.Refusal.TheVariants as why
 use Rattle.expander_c.specs.declared.code.Code.{Code}
-use Rattle.expander_c.specs.declared.code.Code.TheVariants.{Done, Unread, Memory, Tokens, Numbers, Closed, Utf8, Length, Edition, Grammar, Boundary, Range, Nothing, Index, Room, Root, Source, Scope}
+use Rattle.expander_c.specs.declared.code.Code.TheVariants.{Done, Unread, Memory, Tokens, Numbers, Closed, Utf8, Length, Edition, Grammar, Boundary, Range, Nothing, Index, Room, Root, Source, Scope, Cfg}
 
 abbrev pub number : Code → ℕ
 number Done = 0
@@ -24,6 +24,7 @@ number Room = 14
 number Root = 16
 number Source = 17
 number Scope = 18
+number Cfg = 19
 
 abbrev pub refused : Refusal → Code
 refused why.Memory = Memory

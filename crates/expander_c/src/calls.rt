@@ -2,28 +2,33 @@
 ghost use Rattle.std.specs.Prelude.{◌≡◌, None, ⊤};
 ghost use Rattle.expander_c.specs.Answered.{CountsTold, FaultTold, OfExpansion, OriginsTold, PrintedTold, ReadingFaultTold, SourcesTold, TokenRangesTold};
 ghost use Rattle.expander_c.specs.Calls.{BoundaryTold, EditTold, ExpandTold, FitTold, PreludeTold, SourceAdded};
-ghost use Rattle.expander_c.specs.Tellings.{Looks, Opened, TextTold, Told};
+ghost use Rattle.expander_c.specs.Conditions.{texts};
+ghost use Rattle.expander_c.specs.Tellings.{Looks, Opened, OpenedBy, TextTold, Told};
 
 use crate::answers::{ByteRange, Counts, SourceTold, ToldFault};
 use crate::code::Code;
+use crate::conditions::{Word, set_of};
 use crate::handle::Handle;
 use crate::last;
 use crate::live::{Given, Live};
 use crate::options::SessionOptions;
 use crate::room::copy_text;
 use crate::sources::Pick;
+use cfg_options::CfgOptions;
 use std::alloc::Global;
 
-/// Opens a session over a copy of the text, in place of what the handle holds, which is freed.
+/// Opens a session over a copy of the text, in place of what the handle holds, which is freed. A
+/// set of options for conditional compilation stays with the session.
 pub(crate) fn open(
     alloc: Global,
     handle: &mut Handle,
     text: &[u8],
     options: &SessionOptions,
+    cfg: Option<CfgOptions>,
 ) -> Code
-    ensures { Opened text.now options.now handle.old.held handle.new.held result }
+    ensures { Opened text.now options.now cfg handle.old.held handle.new.held result }
 {
-    let live = match Live::new(alloc, text, options) {
+    let live = match Live::new(alloc, text, options, cfg) {
         Ok(live) => live,
         Err(code) => return code,
     };
@@ -32,6 +37,23 @@ pub(crate) fn open(
     };
     handle.put(alloc, live);
     Code::Done
+}
+
+/// Opens a session under the set of the options that these words name.
+pub(crate) fn open_cfg(
+    alloc: Global,
+    handle: &mut Handle,
+    text: &[u8],
+    options: &SessionOptions,
+    words: &[Word<'_>],
+) -> Code
+    ensures { OpenedBy (texts words.now) text.now options.now handle.old.held handle.new.held
+        result }
+{
+    match set_of(alloc, words) {
+        Ok(set) => open(alloc, handle, text, options, Some(set)),
+        Err(code) => code,
+    }
 }
 
 /// The length of the text, and the text itself, copied to the beginning of the room.

@@ -43,6 +43,8 @@ pub enum Code {
     Source,
     /// There are no such rules of scopes.
     Scope,
+    /// A word names no option for conditional compilation.
+    Cfg,
 }
 
 impl Code {
@@ -70,6 +72,7 @@ impl Code {
             Code::Root => 16,
             Code::Source => 17,
             Code::Scope => 18,
+            Code::Cfg => 19,
         }
     }
 }

@@ -2,10 +2,12 @@
 ghost use Rattle.std.specs.Prelude.{◌≡◌, None, ⊤};
 ghost use Rattle.expander_c.specs.Answered.{CountsTold, FaultTold, OfExpansion, OriginsTold, PrintedTold, ReadingFaultTold, SourcesTold, TokenRangesTold};
 ghost use Rattle.expander_c.specs.Calls.{BoundaryTold, EditTold, ExpandTold, FitTold, PreludeTold, SourceAdded, top_options};
-ghost use Rattle.expander_c.specs.Tellings.{Looks, Opened, Tells, TextTold, Told};
+ghost use Rattle.expander_c.specs.Conditions.{texts};
+ghost use Rattle.expander_c.specs.Tellings.{Looks, Opened, OpenedBy, Tells, TextTold, Told};
 
 use crate::answers::{ByteRange, Counts, SourceTold, ToldFault};
 use crate::calls;
+use crate::conditions::Word;
 use crate::handle::Handle;
 use crate::live::Given;
 use crate::options::SessionOptions;
@@ -23,7 +25,7 @@ pub extern "C" fn expander_raw_open(
     depth: u8,
     grammar: u32,
 ) -> u32
-    ensures { Tells (Opened text.now (top_options edition depth grammar) handle.old.held
+    ensures { Tells (Opened text.now (top_options edition depth grammar) None handle.old.held
         handle.new.held) result }
 {
     let options = SessionOptions {
@@ -32,7 +34,7 @@ pub extern "C" fn expander_raw_open(
         scope: 0,
         depth,
     };
-    calls::open(alloc, handle, text, &options).number()
+    calls::open(alloc, handle, text, &options, None).number()
 }
 
 /// Opens a session as `expander_raw_open` does, by all of its options.
@@ -43,9 +45,25 @@ pub extern "C" fn expander_raw_open_with(
     text: &[u8],
     options: &SessionOptions,
 ) -> u32
-    ensures { Tells (Opened text.now options.now handle.old.held handle.new.held) result }
+    ensures { Tells (Opened text.now options.now None handle.old.held handle.new.held) result }
 {
-    calls::open(alloc, handle, text, options).number()
+    calls::open(alloc, handle, text, options, None).number()
+}
+
+/// Opens a session as `expander_raw_open_with` does, under the set of the options for conditional
+/// compilation that these words name.
+#[unsafe(no_mangle)]
+pub extern "C" fn expander_raw_open_cfg(
+    alloc: Global,
+    handle: &mut Handle,
+    text: &[u8],
+    options: &SessionOptions,
+    words: &[Word<'_>],
+) -> u32
+    ensures { Tells (OpenedBy (texts words.now) text.now options.now handle.old.held
+        handle.new.held) result }
+{
+    calls::open_cfg(alloc, handle, text, options, words).number()
 }
 
 /// Closes the session and frees it. Nothing happens if the handle holds none.

@@ -7,6 +7,7 @@
 mod answers;
 mod calls;
 mod code;
+mod conditions;
 mod exports;
 mod handle;
 mod last;

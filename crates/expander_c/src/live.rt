@@ -7,6 +7,7 @@ use crate::code::{Code, refused};
 use crate::options::SessionOptions;
 use crate::sources::{Pick, Sources};
 use any_grammar::AnyGrammar;
+use cfg_options::CfgOptions;
 use expander::{Dialect, Edition, Expansion, Home, ReadFault, Reply, Session, Source, SourceRead};
 use std::alloc::{AllocError, Global};
 use tt_data::TtFault;
@@ -76,8 +77,8 @@ fn dialect_of(number: u32) -> Option<Dialect>
     }
 }
 
-// Bytes as a text of at most `u32::MAX` bytes.
-fn text_in(bytes: &[u8]) -> Result<&str, Code>
+/// Bytes as a text of at most `u32::MAX` bytes.
+pub(crate) fn text_in(bytes: &[u8]) -> Result<&str, Code>
     ensures text { IfOk result (λ text. (text.now ≡ bytes.now) × (length bytes.now < 2 ^ 32)) }
     ensures no_text { IfErr result (NoText bytes.now) }
 {
@@ -129,9 +130,15 @@ fn read_source(alloc: Global, given: &Given<'_>) -> Result<SourceRead, Code>
 }
 
 impl Live {
-    /// A session over a copy of the text. Nothing is expanded yet.
-    pub(crate) fn new(alloc: Global, text: &[u8], options: &SessionOptions) -> Result<Live, Code>
-        ensures new { IfOk result (IsNew text.now options.now) }
+    /// A session over a copy of the text, under a set of options for conditional compilation, or
+    /// without one. Nothing is expanded yet.
+    pub(crate) fn new(
+        alloc: Global,
+        text: &[u8],
+        options: &SessionOptions,
+        cfg: Option<CfgOptions>,
+    ) -> Result<Live, Code>
+        ensures new { IfOk result (IsNew text.now options.now cfg) }
         ensures why { IfErr result (CannotOpen text.now options.now) }
     {
         let Some(edition) = edition_of(options.edition) else {
@@ -140,9 +147,10 @@ impl Live {
         let Some(grammar) = grammar_of(options.grammar, edition) else {
             return Err(Code::Grammar);
         };
-        let Some(dialect) = dialect_of(options.scope) else {
+        let Some(Dialect { scope, items, .. }) = dialect_of(options.scope) else {
             return Err(Code::Scope);
         };
+        let dialect = Dialect { scope, items, cfg };
         let text = text_in(text)?;
         match Session::with_dialect(alloc, text, grammar, edition, dialect, options.depth) {
             Ok(session) => Ok(Live {
