@@ -35,3 +35,5 @@ pub mod PieceTokens
 pub mod FixedPoint
 pub mod PieceTrees
 pub mod SessionCalls
+-- which options words set
+pub mod NamedOptions

@@ -5,7 +5,7 @@ use Rattle.std.specs.Prelude.{Any}
 use Rattle.small_grammar.specs.Text.{◌>>=◌}
 use Rattle.cfg_options.specs.Conditions.{Options}
 use Rattle.cfg_options.specs.Words.{Sets}
-use Rattle.expander_c.specs.Conditions.{with_named, with_option}
+use Rattle.expander.specs.NamedOptions.{with_named, with_option}
 
 -- the set in which one option more is
 set_is : (o : List ℕ × Option (List ℕ)) (before after : Options)

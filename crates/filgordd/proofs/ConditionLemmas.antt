@@ -6,7 +6,8 @@ use Rattle.std.specs.Prelude.{is_some}
 use Rattle.small_grammar.specs.Text.{◌>>=◌}
 use Rattle.cfg_options.specs.Conditions.{Options}
 use Rattle.cfg_options.specs.Words.{Sets, option_of}
-use Rattle.filgordd.specs.Conditions.{IsFirstWrong, SetsNone, no_options, with_named, with_option}
+use Rattle.expander.specs.NamedOptions.{no_options, with_named, with_option}
+use Rattle.filgordd.specs.Conditions.{IsFirstWrong, SetsNone}
 
 -- the set in which no option is
 pub none_is : (o : Options)

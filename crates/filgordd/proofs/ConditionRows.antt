@@ -6,7 +6,7 @@ use Rattle.ucd_derived.specs.Binary.{is_xid_start, is_xid_continue}
 use Rattle.ucd_derived.specs.XidContinueRanges.{xid_continue_ranges}
 use Rattle.ucd_derived.specs.XidStartRanges.{xid_start_ranges}
 use Rattle.ucd_table.specs.Rows.{in_ranges}
-use Rattle.filgordd.specs.Conditions.{no_options, with_named}
+use Rattle.expander.specs.NamedOptions.{no_options, with_named}
 use Rattle.filgordd.specs.Warnings.{misreads_in}
 
 -- whether this option is set once these words are read

@@ -1,7 +1,8 @@
 //! The options for conditional compilation that words name.
 ghost use Rattle.std.specs.Prelude.{◌≡◌, ◌≢◌, Some, IfOk, IfErr, IfNone, IfSome, map, []};
 ghost use Rattle.cfg_options.specs.Options.{options_of};
-ghost use Rattle.filgordd.specs.Conditions.{IsFirstWrong, no_options, with_named};
+ghost use Rattle.expander.specs.NamedOptions.{no_options, with_named};
+ghost use Rattle.filgordd.specs.Conditions.{IsFirstWrong};
 
 use cfg_options::{CfgFault, CfgOptions};
 use std::alloc::{AllocError, Global};

@@ -2,7 +2,8 @@
 use Rattle.std.proofs.Common.{◌+◌, ◌∙◌, ap, drop, sym, rules}
 use Rattle.std.proofs.lemmas.List.{drop_more}
 use Rattle.cfg_options.specs.Options.{options_of}
-use Rattle.expander_c.specs.Conditions.{NoSet, texts, with_named}
+use Rattle.expander.specs.NamedOptions.{with_named}
+use Rattle.expander_c.specs.Conditions.{NoSet, texts}
 use Rattle.expander_c.proofs.ConditionLemmas.{any_of, next_named}
 use Rattle.expander_c.proofs.conditions.set_of.Goals as goal
 

@@ -1,6 +1,7 @@
 use Rattle.std.proofs.Common.{◌≡◌, drop}
 use Rattle.cfg_options.specs.Options.{options_of}
-use Rattle.expander_c.specs.Conditions.{no_options, texts, with_named}
+use Rattle.expander.specs.NamedOptions.{no_options, with_named}
+use Rattle.expander_c.specs.Conditions.{texts}
 use Rattle.expander_c.proofs.conditions.set_of.Given as goal
 
 abbrev pub invariant-loop-word : goal.invariant-loop-word

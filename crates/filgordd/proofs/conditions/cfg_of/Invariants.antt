@@ -1,6 +1,6 @@
 use Rattle.std.proofs.Common.{◌≡◌, Some, map, take}
 use Rattle.cfg_options.specs.Options.{options_of}
-use Rattle.filgordd.specs.Conditions.{no_options, with_named}
+use Rattle.expander.specs.NamedOptions.{no_options, with_named}
 use Rattle.filgordd.proofs.conditions.cfg_of.Given as goal
 
 abbrev pub invariant-loop-word : goal.invariant-loop-word
