@@ -379,9 +379,10 @@ static size_t told(struct expander_session *s, uint8_t *into) {
     return n;
 }
 
-/* A session by these rules of scopes, under options for `cfg` if so. */
+/* A session by these rules of scopes, under options for `cfg` if so. There are few levels, since random definitions call
+ * themselves more than once. */
 static uint32_t open_by(struct expander_session *s, const char *text, size_t len, uint32_t scope, bool is_under) {
-    const struct expander_options options = {2024, EXPANDER_GRAMMAR_RUST, scope, 128};
+    const struct expander_options options = {2024, EXPANDER_GRAMMAR_RUST, scope, 5};
     const struct expander_word words[] = {{"a", 1}, {"c = \"d\"", 7}};
     return is_under ? expander_open_cfg(s, text, len, &options, words, 2) : expander_open_with(s, text, len, &options);
 }
