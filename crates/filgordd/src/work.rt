@@ -87,6 +87,7 @@ struct Task {
 }
 
 // Warns of conditions of a text that cannot be read, where options are set. `name` is its file's.
+// Of a text in which the letters `cfg` are not, nothing is to be read.
 fn warn(rt: &HostRuntime, options: &Options<AnyGrammar>, name: &str, text: &[u8]) {
     let Some(cfg) = &options.dialect.cfg else {
         return;
@@ -94,7 +95,7 @@ fn warn(rt: &HostRuntime, options: &Options<AnyGrammar>, name: &str, text: &[u8]
     let Ok(text) = std::str::from_utf8(text) else {
         return;
     };
-    if text.len() > u32::MAX as usize {
+    if text.len() > u32::MAX as usize || !text.contains("cfg") {
         return;
     }
     if let Ok(lines) = warnings(rt.alloc(), cfg, name, text) {
