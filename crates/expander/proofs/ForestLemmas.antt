@@ -11,7 +11,7 @@ use Rattle.tt_data.specs.declared.leaf.Punct.{Punct}
 use Rattle.tt_data.specs.declared.span.Span.{Span}
 use Rattle.expander_model.specs.Calls.{Path, bare, from_crate, other, Marked, none, token, inside, call, key_of, marked, unmarked}
 use Rattle.expander_model.specs.Definitions.{Definition, definition_of, nearest}
-use Rattle.expander_model.specs.Expansion.{PlacedStep, World, Outcome, CallSite, placed, just, grouped, faulted, before_group, whole_call}
+use Rattle.expander_model.specs.Expansion.{PlacedStep, World, Outcome, CallSite, placed, just, grouped, faulted, before_group}
 use Rattle.expander_model.specs.Meaning.{Layers, member, members_after, output_of, with_definition}
 use Rattle.expander_model.specs.PieceStates.{after_call, after_group, after_leaf, is_dropped}
 use Rattle.expander_model.specs.Pieces.{cut}

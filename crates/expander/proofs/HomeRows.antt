@@ -1,6 +1,6 @@
 -- Worked examples of texts after definitions of other crates, by computation.
 use Rattle.std.proofs.Common.{◌≡◌, ℕ, List, [], ◌∷◌, ◌++◌, map, refl}
-use Rattle.std.specs.Prelude.{codes, Option, Some, None, Result, Ok, Err}
+use Rattle.std.specs.Prelude.{codes, Some, Result, Ok, Err}
 use Rattle.std.specs.Char.{encode_utf8}
 use Rattle.std.specs.Str.{chars, is_utf8}
 use Rattle.ucd_derived.specs.Binary.{is_xid_start, is_xid_continue}
@@ -10,7 +10,7 @@ use Rattle.ucd_table.specs.Rows.{in_ranges}
 use Rattle.bridge.specs.TokenSteps.{text_reading}
 use Rattle.bridge.specs.declared.reading.outcome.ReadFault.{ReadFault}
 use Rattle.tt_data.specs.Forest.{Forest}
-use Rattle.tt_data.specs.declared.edition.Edition.TheVariants.{Edition2018, Edition2021}
+use Rattle.tt_data.specs.declared.edition.Edition.TheVariants.{Edition2021}
 use Rattle.expander_model.specs.Meaning.{definitions_after, meaning_in}
 use Rattle.expander_model.specs.declared.fault.FaultKind.TheVariants.{CannotExpand}
 use Rattle.expander_run.specs.Runs.{run_layers}

@@ -4,7 +4,6 @@ use Rattle.std.specs.Prelude.{◌↔◌, All, IsUtf8, Option, Some, None, Result
 use Rattle.std.proofs.lemmas.List.Elements.{All-cons, All-head, All-nil, All-tail}
 use Rattle.bridge.specs.Printing.{is_visible_step, step_span}
 use Rattle.bridge.specs.TokenSteps.{text_reading}
-use Rattle.bridge.specs.declared.printing.relative_spans.Place.{Place}
 use Rattle.bridge.specs.declared.reading.outcome.ReadFault.{ReadFault}
 use Rattle.mbe.specs.Grammar.{Grammar}
 use Rattle.tt_data.specs.Forest.{Forest, empty, leaf, group}
@@ -18,7 +17,7 @@ use Rattle.expander_model.specs.DefinitionTrees.{definition_trees}
 use Rattle.expander_model.specs.Definitions.{Definition, definition_of}
 use Rattle.expander_model.specs.EqualTrees.{same_forest}
 use Rattle.expander_model.specs.Expansion.{PlacedStep, World}
-use Rattle.expander_model.specs.Held.{IsMet, Kept, Known, Met, StandFromFirst, base_of, first_text, kept, kept_after, kept_of, met, met_of, place_of, present, resolve, with_met}
+use Rattle.expander_model.specs.Held.{IsMet, Known, Met, StandFromFirst, base_of, first_text, kept_after, kept_of, met_of, place_of, present, resolve, with_met}
 use Rattle.expander_model.specs.Meaning.{Layers, Member, ReadMeaning, meaning, meaning_from, members, output, output_of, tokens_of}
 use Rattle.expander_model.specs.Pieces.{pieces, relative}
 use Rattle.expander_model.specs.Printing.{PrintedToken, printed, spelled, visible}

@@ -1,5 +1,5 @@
 -- Which options for conditional compilation a list of words sets. (Of this project.)
-use Rattle.std.specs.Prelude.{ℕ, false, ◌&&◌, ◌||◌, List, [], ◌∷◌, Option, Some, None}
+use Rattle.std.specs.Prelude.{ℕ, false, ◌&&◌, ◌||◌, List, [], ◌∷◌, Option, Some}
 use Rattle.small_grammar.specs.Text.{same_text, ◌>>=◌}
 use Rattle.cfg_options.specs.Conditions.{Options}
 use Rattle.cfg_options.specs.Options.{same_value}
