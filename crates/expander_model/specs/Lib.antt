@@ -12,7 +12,7 @@ pub mod Meaning
 -- what the meaning of a text is built on
 pub mod EditionMarks
 pub mod World
--- what conditional compilation leaves out; no meaning takes it yet
+-- what conditional compilation leaves out
 pub mod WholeItems
 -- what the count of pieces and the laws rest on
 pub mod EqualTrees

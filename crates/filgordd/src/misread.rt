@@ -4,7 +4,8 @@ ghost use Rattle.bridge.specs.Text.{is_punct};
 ghost use Rattle.tt_data.specs.Lent.{leaf_lent};
 ghost use Rattle.cfg_options.specs.Options.{options_of};
 ghost use Rattle.expander_model.specs.Pieces.{cut};
-ghost use Rattle.filgordd.specs.Warnings.{body_of, braced, first_misread, inner_misreads, misreads, misreads_of};
+ghost use Rattle.filgordd.specs.Warnings.{body_of, braced, first_misread, inner_misreads, misreads};
+ghost use Rattle.filgordd.specs.Warnings.{misreads_of};
 
 use cfg_options::CfgOptions;
 use expander_model::definition::definition_of;
@@ -87,24 +88,10 @@ fn push_list(
 {
     let mut rest = list.copied();
     while let Some(piece) = next_piece(&mut rest) {
-        push_piece(options, levels, &piece, spans)?;
+        push_first(options, &piece, spans)?;
+        push_body(options, levels, &piece, spans)?;
     }
     Ok(())
-}
-
-// Adds that before a piece, and those in it.
-#[cycle(misreads)]
-fn push_piece(
-    options: &CfgOptions,
-    levels: u8,
-    piece: &TtIter<'_>,
-    spans: &mut Vec<Span>,
-) -> Result<(), AllocError>
-    ensures { OnOk result (spans.new.items ≡ spans.old.items
-        ++ misreads_of (options_of options.now) levels piece.now) }
-{
-    push_first(options, piece, spans)?;
-    push_body(options, levels, piece, spans)
 }
 
 // Adds those in a piece.

@@ -18,7 +18,8 @@ ghost use Rattle.textual_scope.specs.ScopeChanges.{around_with, scoped_with};
 ghost use Rattle.textual_scope.specs.TopLevelMeaning.{top_meaning};
 ghost use Rattle.expander_model.specs.declared.scope_rules.Standing.{Standing};
 ghost use Rattle.expander_model.specs.declared.scope_rules.Standing.TheVariants.{Top};
-ghost use Rattle.expander_model.specs.Scoping.{Around, Expander, Scoped, Search, and_next, only, scoped, search_list, search_pieces, without_locals};
+ghost use Rattle.expander_model.specs.Scoping.{Around, Expander, Scoped, Search, and_next, only};
+ghost use Rattle.expander_model.specs.Scoping.{scoped, search_list, search_pieces, without_locals};
 ghost use Rattle.expander_model.specs.declared.dialect.Dialect.{Dialect};
 ghost use Rattle.expander_model.specs.declared.scope_rules.ScopeRules.TheVariants.{Rust};
 
@@ -181,8 +182,8 @@ pub fn expansions_by_limits_at_other_spans()
         ≡ scoped_with f h (outermost dialect one local scope limits depth around g) }
 {}
 
-/// Where names find nothing outside of lists, no list has definitions and nothing is left out, limits
-/// change nothing, and a list is expanded as if no list had definitions.
+/// Where names find nothing outside of lists, no list has definitions and nothing is left out,
+/// limits change nothing, and a list is expanded as if no list had definitions.
 pub fn without_definitions_limits_change_nothing()
     ensures { (dialect : Dialect) (world : World Definition) (local : Definition → Definition)
         (limits : Option Limits) (depth : ℕ) (f : Forest) →

@@ -9,15 +9,11 @@ use Rattle.filgordd.proofs.misread.+misreads.Goals as goal
 pub push_list-loop-piece-preserved : goal.push_list-loop-piece-preserved
 push_list-loop-piece-preserved t c =
     next_spans (misreads_of (options_of c.args.options.now) c.args.levels) c.loop-piece.rest
-    c.in-Some.piece c.next_piece.new.rest c.loop-piece.spans.items c.push_piece.new.spans.items
-    (rw c.in-Some.is at c.next_piece.ensures).0 c.in_ok-push_piece.ensures
+    c.in-Some.piece c.next_piece.new.rest c.loop-piece.spans.items c.push_body.new.spans.items
+    (rw c.in-Some.is at c.next_piece.ensures).0
+    (piece_spans (options_of c.args.options.now) c.args.levels c.in-Some.piece _ _ _ c.in_ok-push_first.ensures
+    c.in_ok-push_body.ensures)
     ∙ c.loop-piece.invariant
-
-pub push_piece-returns : goal.push_piece-returns
-push_piece-returns t c =
-    on_ok_weaker c.push_body.result
-    (piece_spans (options_of c.args.options.now) c.args.levels c.args.piece.now _ _ _ c.in_ok-push_first.ensures)
-    c.push_body.ensures
 
 pub push_body-returns-in-Some : goal.push_body-returns-in-Some
 push_body-returns-in-Some t c =

@@ -7,13 +7,10 @@ use Rattle.filgordd.specs.Warnings.{misreads_of}
 use Rattle.filgordd.proofs.misread.+misreads.Given as goal
 
 abbrev pub decreases-push_list : goal.decreases-push_list
-decreases-push_list l = 3 * l.levels + 2
-
-abbrev pub decreases-push_piece : goal.decreases-push_piece
-decreases-push_piece l = 3 * l.levels + 1
+decreases-push_list l = 2 * l.levels + 1
 
 abbrev pub decreases-push_body : goal.decreases-push_body
-decreases-push_body l = 3 * l.levels
+decreases-push_body l = 2 * l.levels
 
 abbrev pub invariant-push_list-loop-piece : goal.invariant-push_list-loop-piece
 invariant-push_list-loop-piece l =
