@@ -26,7 +26,7 @@ static void *opened(void *unused) {
 }
 /* The text as a word for `cfg`. */
 static void *named(void *unused) {
-    const struct expander_options options = {edition, grammar, EXPANDER_SCOPE_RUST, depth};
+    const struct expander_options options = {edition, grammar, EXPANDER_SCOPE_RUST, depth, 0, 0};
     const struct expander_word words[] = {{"unix", 4}, {text, len}};
     struct expander_session other = EXPANDER_SESSION_INIT;
     expander_open_cfg(&other, "", 0, &options, words, 2);

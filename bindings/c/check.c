@@ -82,7 +82,7 @@ static void scopes(void) {
     for (uint32_t scope = EXPANDER_SCOPE_TOP; scope <= EXPANDER_SCOPE_RUST; scope++) {
         struct expander_session s = EXPANDER_SESSION_INIT;
         struct expander_counts counts = {0, 0, 0, 0};
-        struct expander_options options = {2024, EXPANDER_GRAMMAR_RUST, scope, 128};
+        struct expander_options options = {2024, EXPANDER_GRAMMAR_RUST, scope, 128, 0, 0};
         char room[64] = "";
         SAME(expander_open_with(&s, text, strlen(text), &options), EXPANDER_OK);
         SAME(expander_expand(&s), EXPANDER_OK);
@@ -100,7 +100,7 @@ static void scopes(void) {
 }
 
 static uint32_t open_cfg(struct expander_session *s, const char *text, const char *const *named, size_t n) {
-    const struct expander_options options = {2024, EXPANDER_GRAMMAR_RUST, EXPANDER_SCOPE_RUST, 128};
+    const struct expander_options options = {2024, EXPANDER_GRAMMAR_RUST, EXPANDER_SCOPE_RUST, 128, 0, 0};
     struct expander_word words[4];
     for (size_t i = 0; i < n; i++) words[i].bytes = named[i], words[i].len = strlen(named[i]);
     return expander_open_cfg(s, text, strlen(text), &options, n ? words : NULL, n);
@@ -115,6 +115,28 @@ static void prints(struct expander_session *s, const char *wanted) {
     SAME(counts.printed, strlen(wanted));
     SAME(expander_printed(s, room, sizeof room), EXPANDER_OK);
     if (strcmp(room, wanted)) printf("%s is printed, not %s\n", room, wanted), failures++;
+}
+
+/* A call that makes more than the options say stays. */
+static void limits(void) {
+    const char *text = "macro_rules! w { () => { w!{} w!{} } } macro_rules! b { () => { c!{} } } "
+                       "macro_rules! c { () => { 1 2 } } b!{} w!{}";
+    const struct { size_t calls, tokens, faults; } rows[] = {{2, 6, 1}, {1, 6, 2}, {2, 5, 2}, {9, 0, 1}};
+    for (size_t i = 0; i < sizeof rows / sizeof *rows; i++) {
+        struct expander_session s = EXPANDER_SESSION_INIT;
+        const struct expander_options options = {2024, EXPANDER_GRAMMAR_RUST, EXPANDER_SCOPE_TOP, 128, rows[i].calls, rows[i].tokens};
+        struct expander_counts counts = {0, 0, 0, 0};
+        SAME(expander_open_with(&s, text, strlen(text), &options), EXPANDER_OK);
+        SAME(expander_expand(&s), EXPANDER_OK);
+        SAME(expander_counts(&s, &counts), EXPANDER_OK);
+        SAME(counts.faults, rows[i].faults);
+        for (size_t f = 0; f < counts.faults; f++) {
+            struct expander_fault fault = {0, {0, 0}};
+            SAME(expander_fault(&s, f, &fault), EXPANDER_OK);
+            SAME(fault.kind, EXPANDER_TOO_LARGE);
+        }
+        expander_close(&s);
+    }
 }
 
 /* Of two definitions that whose option is set is used, and of an item what has to be set. */
@@ -151,7 +173,7 @@ static void conditions(void) {
     }
     const char *const bytes[] = {"unix", "\xff"};
     SAME(open_cfg(&s, text, bytes, 2), EXPANDER_UTF8);
-    const struct expander_options options = {2024, EXPANDER_GRAMMAR_RUST, 2, 128};
+    const struct expander_options options = {2024, EXPANDER_GRAMMAR_RUST, 2, 128, 0, 0};
     const struct expander_word null[] = {{"unix", 4}, {NULL, 0}};
     SAME(expander_open_cfg(&s, "a", 1, &options, null, 1), EXPANDER_SCOPE);
     SAME(expander_open_cfg(&s, "a", 1, &options, null, 2), EXPANDER_NULL);
@@ -162,7 +184,7 @@ static void conditions(void) {
     prints(&s, "3\n");
 
     /* Without a set each condition holds. */
-    const struct expander_options plain = {2024, EXPANDER_GRAMMAR_RUST, EXPANDER_SCOPE_RUST, 128};
+    const struct expander_options plain = {2024, EXPANDER_GRAMMAR_RUST, EXPANDER_SCOPE_RUST, 128, 0, 0};
     SAME(expander_open_with(&s, text, strlen(text), &plain), EXPANDER_OK);
     snprintf(all, sizeof all, "%s2\n", item);
     prints(&s, all);
@@ -195,7 +217,7 @@ static void codes(void) {
     SAME(expander_open(&s, "a", 1, 2024, 128, 2), EXPANDER_GRAMMAR);
     SAME(expander_open(&s, "a", 1, 2024, 128, UINT32_MAX), EXPANDER_GRAMMAR);
     SAME(expander_open(&s, "\xff", 1, 2024, 128, 0), EXPANDER_UTF8);
-    struct expander_options options = {2024, EXPANDER_GRAMMAR_SMALL, 2, 128};
+    struct expander_options options = {2024, EXPANDER_GRAMMAR_SMALL, 2, 128, 0, 0};
     SAME(expander_open_with(&s, "a", 1, &options), EXPANDER_SCOPE);
     options.scope = UINT32_MAX;
     SAME(expander_open_with(&s, "a", 1, &options), EXPANDER_SCOPE);
@@ -382,7 +404,7 @@ static size_t told(struct expander_session *s, uint8_t *into) {
 /* A session by these rules of scopes, under options for `cfg` if so. There are few levels, since random definitions call
  * themselves more than once. */
 static uint32_t open_by(struct expander_session *s, const char *text, size_t len, uint32_t scope, bool is_under) {
-    const struct expander_options options = {2024, EXPANDER_GRAMMAR_RUST, scope, 5};
+    const struct expander_options options = {2024, EXPANDER_GRAMMAR_RUST, scope, 5, 0, 0};
     const struct expander_word words[] = {{"a", 1}, {"c = \"d\"", 7}};
     return is_under ? expander_open_cfg(s, text, len, &options, words, 2) : expander_open_with(s, text, len, &options);
 }
@@ -429,6 +451,7 @@ int main(int argc, char **argv) {
     the_row();
     grammars();
     scopes();
+    limits();
     conditions();
     codes();
     sources();

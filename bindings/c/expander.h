@@ -16,8 +16,8 @@
  * Memory. Each function below says what its pointers are to. In all of them:
  *   - The memory is there, and initialised, until the call returns: room that is only written to as well,
  *     with anything, as by calloc. No call keeps a pointer that it is passed, and none hands one out.
- *   - It is aligned as C aligns its type: bytes anywhere, numbers, ranges, faults, picks and options at 4,
- *     sessions, counts, lengths, words and what is told of a source at 8.
+ *   - It is aligned as C aligns its type: bytes anywhere, numbers, ranges, faults and picks at 4,
+ *     sessions, options, counts, lengths, words and what is told of a source at 8.
  *   - No two pointers of a call overlap, but words may share bytes. Nobody else writes what they are to during
  *     the call, nor reads what it writes. No element is read or written beyond the length that is said.
  *   - A pointer with a length may be NULL if the length is 0, but that of a word. Any other pointer that is NULL
@@ -114,7 +114,8 @@ enum expander_fault_kind {
     EXPANDER_BROKEN_DEFINITION = 1, /* the definition's rules cannot be parsed */
     EXPANDER_RECURSION_LIMIT = 2,   /* no level is left for the call */
     EXPANDER_NESTED_DEFINITION = 3, /* `macro_rules` or `macro` is in the output */
-    EXPANDER_UNSPELLABLE = 4        /* a token has no spelling, and was omitted */
+    EXPANDER_UNSPELLABLE = 4,       /* a token has no spelling, and was omitted */
+    EXPANDER_TOO_LARGE = 5          /* the call makes more than the options say */
 };
 
 enum expander_reading_fault_kind {
@@ -124,10 +125,12 @@ enum expander_reading_fault_kind {
 };
 
 /* What a session is opened with: an edition, 2015, 2018, 2021 or 2024; a grammar and rules of scopes, of the enums
- * above; and how many levels of calls are expanded. */
+ * above; how many levels of calls are expanded; how many calls may be expanded for one call of the text, itself among
+ * them, and how many tokens their results may have together, each 0 for no limit. A call that makes more stays. */
 struct expander_options {
     uint32_t edition, grammar, scope;
     uint8_t depth;
+    size_t calls, tokens;
 };
 
 /* A word of a list, of `len` bytes of UTF-8. It names an option for conditional compilation, as after `--cfg` of rustc:

@@ -93,7 +93,7 @@ static uint32_t make(struct expander_session *s, const struct step *it) {
     size_t len = strlen(it->text);
     struct expander_source_told told = {0, {0, {0, 0}}};
     struct expander_pick all = {(uint32_t)it->start, EXPANDER_ALL};
-    struct expander_options options = {2024, EXPANDER_GRAMMAR_RUST, (uint32_t)it->start, 128};
+    struct expander_options options = {2024, EXPANDER_GRAMMAR_RUST, (uint32_t)it->start, 128, 0, 0};
     const struct expander_word words[] = {{"unix", 4}, {"a = \"b\\n\"", 9}, {"unix", 4}};
     switch (it->call) {
     case OPEN:

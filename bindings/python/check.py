@@ -66,8 +66,20 @@ def scopes():
     assert expansion.printed == "fn f ( ) { 1 }\n" and not expansion.faults
     assert all(raises(ValueError, Session, text, scope=bad) for bad in ("", "Rust", "list"))
     assert all(raises(TypeError, Session, text, scope=bad) for bad in (0, None, b"rust", True))
-    never, options = Session.__new__(Session), expander._Options(2024, Grammar.RUST, 2, 128)
+    never, options = Session.__new__(Session), expander._Options(2024, Grammar.RUST, 2, 128, 0, 0)
     assert refusal(never._call, "open_with", b"", 0, ctypes.byref(options)) == Code.SCOPE
+
+
+LIMITS = "macro_rules! w { () => { w!{} w!{} } } macro_rules! b { () => { c!{} } } macro_rules! c { () => { 1 2 } } b!{} w!{}"
+
+
+def limits():
+    for calls, tokens, faults in ((2, 6, 1), (1, 6, 2), (2, 5, 2), (9, 0, 1)):
+        expansion = Session(LIMITS, most_calls=calls, most_tokens=tokens).expand()
+        assert [it.kind for it in expansion.faults] == [FaultKind.TOO_LARGE] * faults
+    for bad in (-1, 1 << 64):
+        assert raises(ValueError, Session, "a", most_calls=bad) and raises(ValueError, Session, "a", most_tokens=bad)
+    assert raises(TypeError, Session, "a", most_calls=None) and raises(TypeError, Session, "a", most_tokens=True)
 
 
 CONDITIONS = "#[cfg(unix)] macro_rules! m { () => { 1 } } #[cfg(not(unix))] macro_rules! m { () => { 2 } } "
@@ -378,7 +390,7 @@ def random_edits(count):
     assert read >= count // 3
 
 
-for check in (the_row, grammars, scopes, conditions, codes, sources, items, numbers, once, shared, meanwhile, within, left):
+for check in (the_row, grammars, scopes, limits, conditions, codes, sources, items, numbers, once, shared, meanwhile, within, left):
     check()
 random_edits(int(sys.argv[1]) if len(sys.argv) > 1 else 1000)
 sys.exit(doctest.testmod(expander).failed)

@@ -65,6 +65,7 @@ class FaultKind(IntEnum):
     RECURSION_LIMIT = 2
     NESTED_DEFINITION = 3
     UNSPELLABLE = 4
+    TOO_LARGE = 5
 
 
 class ReadFaultKind(IntEnum):
@@ -288,6 +289,7 @@ class _SourceTold(ctypes.Structure):
 class _Options(ctypes.Structure):
     _fields_ = [(name, ctypes.c_uint32) for name in ("edition", "grammar", "scope")]
     _fields_ += [("depth", ctypes.c_uint8)]
+    _fields_ += [(name, ctypes.c_size_t) for name in ("calls", "tokens")]
 
 
 class _Word(ctypes.Structure):
@@ -395,6 +397,14 @@ class Session:
     ...     session.expand().printed
     '# [ cfg ( a ) ] mod m { }\\n'
 
+    At most `most_calls` calls are expanded for one call of the text, itself among them, and their
+    results have at most `most_tokens` tokens together; 0 is no limit. A call that makes more stays.
+
+    >>> with Session("macro_rules! w { () => { w!{} w!{} } } w!{}", most_calls=1000) as session:
+    ...     expansion = session.expand()
+    ...     expansion.printed, expansion.faults[0].kind.name
+    ('w ! { }\\n', 'TOO_LARGE')
+
     Threads may share a session. One call of it runs at a time, and that of another thread waits,
     `close` too. A call that begins within another of its own thread, as in a signal handler, raises
     RuntimeError. Calls on different sessions run side by side.
@@ -423,10 +433,13 @@ class Session:
         grammar: int = Grammar.RUST,
         scope: str = "top",
         cfg: Iterable[str] | None = None,
+        most_calls: int = 0,
+        most_tokens: int = 0,
     ) -> None:
         data = str.encode(text)
         edition, depth = _number("edition", edition, 32), _number("depth", depth, 8)
-        options = _Options(edition, _number("grammar", grammar, 32), _scope(scope), depth)
+        most = _size("most_calls", most_calls), _size("most_tokens", most_tokens)
+        options = _Options(edition, _number("grammar", grammar, 32), _scope(scope), depth, *most)
         given = (data, len(data), ctypes.byref(options))
         words = None if cfg is None else _words("cfg", cfg)
         with self._turn():

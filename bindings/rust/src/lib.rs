@@ -21,6 +21,7 @@ pub use error::Error;
 
 use error::checked;
 use std::cell::UnsafeCell;
+use std::num::NonZeroUsize;
 use std::ops::Range;
 
 const UNREAD: u32 = 1;
@@ -56,7 +57,7 @@ pub enum Scope {
 }
 
 /// What a session is opened with. By default that is the grammar of Rust, edition 2024, the scope of
-/// the top level, 128 levels of calls, and no evaluation of `cfg`.
+/// the top level, 128 levels of calls, no evaluation of `cfg`, and no limit of what a call makes.
 #[derive(Clone, Copy, Debug, PartialEq, Eq, Hash)]
 pub struct Options<'a> {
     pub grammar: Grammar,
@@ -68,13 +69,24 @@ pub struct Options<'a> {
     /// or `NAME="VALUE"` with a string of Rust. Definitions, and whole items in lists of items, whose
     /// `cfg` is then false are left out, those of sources too. With `None` nothing is left out.
     pub cfg: Option<&'a [&'a str]>,
+    /// How many calls may be expanded for one call of the text, itself among them. A call that makes
+    /// more stays. With `None` there is no limit.
+    pub most_calls: Option<NonZeroUsize>,
+    /// How many tokens their results may have together, those in between too.
+    pub most_tokens: Option<NonZeroUsize>,
 }
 
 impl Default for Options<'_> {
     fn default() -> Self {
         let (grammar, scope) = (Grammar::default(), Scope::default());
-        Options { grammar, edition: Edition::Edition2024, scope, depth: 128, cfg: None }
+        let (most_calls, most_tokens) = (None, None);
+        Options { grammar, edition: Edition::Edition2024, scope, depth: 128, cfg: None, most_calls, most_tokens }
     }
+}
+
+// A limit as C has it.
+fn number(limit: Option<NonZeroUsize>) -> usize {
+    limit.map_or(0, NonZeroUsize::get)
 }
 
 /// The kind of a fault.
@@ -90,6 +102,8 @@ pub enum FaultKind {
     NestedDefinition,
     /// A token has no spelling, and was omitted.
     Unspellable,
+    /// The call makes more than the options say.
+    TooLarge,
 }
 
 /// A fault, and the bytes of the text that it is reported at.
@@ -272,13 +286,28 @@ impl Session {
     /// assert_eq!(wrong.err(), Some(Error::Cfg));
     /// # Ok::<(), Error>(())
     /// ```
+    ///
+    /// A call that would never end:
+    ///
+    /// ```
+    /// # use filgordd::{FaultKind, Options, Reply, Session};
+    /// # use std::num::NonZeroUsize;
+    /// let text = "macro_rules! w { () => { w!{} w!{} } } w!{}";
+    /// let most_calls = NonZeroUsize::new(1000);
+    /// let mut session = Session::with_options(text, Options { most_calls, ..Options::default() })?;
+    /// let Reply::Read(expansion) = session.expand()? else { panic!("it is read") };
+    /// assert_eq!(expansion.printed(), "w ! { }\n");
+    /// assert_eq!(expansion.faults().next().expect("one").kind, FaultKind::TooLarge);
+    /// # Ok::<(), filgordd::Error>(())
+    /// ```
     pub fn with_options(text: &str, options: Options<'_>) -> Result<Session, Error> {
         let held = std::ptr::null_mut();
         let raw = UnsafeCell::new(sys::Session { held });
         let session = Session { raw };
         let (edition, grammar) = (options.edition as u32, options.grammar as u32);
         let (cfg, scope, depth) = (options.cfg, options.scope as u32, options.depth);
-        let options = sys::Options { edition, grammar, scope, depth };
+        let (calls, tokens) = (number(options.most_calls), number(options.most_tokens));
+        let options = sys::Options { edition, grammar, scope, depth, calls, tokens };
         let (at, len) = (text.as_ptr(), text.len());
         checked(match cfg {
             // SAFETY: the struct holds no session, the bytes are those of a `&str`, and the options are there.
@@ -457,7 +486,8 @@ impl<'s> Expansion<'s> {
                 1 => FaultKind::BrokenDefinition,
                 2 => FaultKind::RecursionLimit,
                 3 => FaultKind::NestedDefinition,
-                _ => FaultKind::Unspellable,
+                4 => FaultKind::Unspellable,
+                _ => FaultKind::TooLarge,
             };
             Fault { kind, range: range(fault.range) }
         })

@@ -49,6 +49,8 @@ pub struct Options {
     pub grammar: u32,
     pub scope: u32,
     pub depth: u8,
+    pub calls: usize,
+    pub tokens: usize,
 }
 
 #[repr(C)]

@@ -52,6 +52,19 @@ fn scopes() {
     }
 }
 
+#[test]
+fn limits() {
+    let text = "macro_rules! w { () => { w!{} w!{} } } macro_rules! b { () => { c!{} } } macro_rules! c { () => { 1 2 } } b!{} w!{}";
+    for (calls, tokens, faults) in [(2, 6, 1), (1, 6, 2), (2, 5, 2), (9, 0, 1)] {
+        let (most_calls, most_tokens) = (NonZeroUsize::new(calls), NonZeroUsize::new(tokens));
+        let options = Options { most_calls, most_tokens, ..Options::default() };
+        let mut session = Session::with_options(text, options).expect("it is opened");
+        let given = read(&mut session);
+        let kinds: Vec<_> = given.faults().map(|it| it.kind).collect();
+        assert_eq!(kinds, vec![FaultKind::TooLarge; faults]);
+    }
+}
+
 fn open_cfg(text: &str, cfg: Option<&[&str]>) -> Result<Session, Error> {
     Session::with_options(text, Options { scope: Scope::Rust, cfg, ..Options::default() })
 }
@@ -130,7 +143,7 @@ fn codes() {
     let (at, mut none) = (session.at(), 0);
     // SAFETY: each pointer is to as much as is said.
     unsafe {
-        let options = sys::Options { edition: 2024, grammar: 0, scope: 0, depth: 0 };
+        let options = sys::Options { edition: 2024, grammar: 0, scope: 0, depth: 0, calls: 0, tokens: 0 };
         assert_eq!(sys::expander_raw_open_with(at, "a".as_ptr(), 1, &sys::Options { edition: 2020, ..options }), 8);
         assert_eq!(sys::expander_raw_open_with(at, "a".as_ptr(), 1, &sys::Options { grammar: 2, ..options }), 9);
         assert_eq!(sys::expander_raw_open_with(at, "a".as_ptr(), 1, &sys::Options { scope: 2, ..options }), 18);

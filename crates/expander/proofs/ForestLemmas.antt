@@ -19,7 +19,9 @@ use Rattle.expander_model.specs.Printing.{steps_of}
 use Rattle.expander_model.specs.declared.begun.Begun.{Begun}
 use Rattle.expander_model.specs.declared.begun.Begun.TheVariants.{Nothing}
 use Rattle.tt_data.specs.declared.leaf.Leaf.{Leaf}
-use Rattle.expander_model.specs.Scoping.{call_site, Around, Scoped, Search, Expander, attempt, PieceKind, out_piece, definition_piece, plain_piece, found_in, kind_in, is_left_out, in_group, behind, without_locals, and_next, in_brackets, defined, fitted, at_level, unbroken, looked_up, at_key, at_call, kept_call, search_leaf, takes_end, search_trees, search_piece, search_pieces, search_list, scoped}
+use Rattle.expander_model.specs.Limits.{Passed, limited, outermost, too_large, within}
+use Rattle.expander_model.specs.declared.limits.Limits.{Limits}
+use Rattle.expander_model.specs.Scoping.{call_site, Around, Attempt, Scoped, Search, Expander, attempt, PieceKind, out_piece, definition_piece, plain_piece, found_in, kind_in, is_left_out, in_group, behind, without_locals, and_next, in_brackets, defined, fitted, at_level, unbroken, looked_up, at_key, at_call, kept_call, search_leaf, takes_end, search_trees, search_piece, search_pieces, search_list, scoped}
 use Rattle.expander_model.specs.declared.fault.FaultKind.TheVariants.{BrokenDefinition}
 use Rattle.expander_model.specs.declared.dialect.Dialect.{Dialect}
 use Rattle.expander_model.specs.declared.scope_rules.Standing.TheVariants.{Top, Argument}
@@ -172,11 +174,28 @@ module _ {D : Type 0} (dialect : Dialect) (world : World D) (local : Definition 
       let search : Search D = scoped dialect world local scope n in
       walked_list (Some (attempt dialect world local scope search)) (walked_attempt search (walked_scoped n)) (suc (size f)) around f
 
+  -- a call that makes too much is put out as it is
+  walked_within : (o : Option (Passed D)) (around : Around) (site : CallSite) (a : Attempt D) → IsWalked a.given → IsWalked (within o around site a).given
+  walked_within None around site a h = h
+  walked_within (Some p) around site a h = walked_trees around.outer site.whole
+
+  walked_limited : (limits : Limits) (n : ℕ) → WalksFrom (limited dialect world local scope limits n)
+  walked_limited limits n d around site =
+      let search : Search D = scoped dialect world local scope n in
+      walked_within (too_large dialect world local scope limits n d around site) around site (attempt dialect world local scope search d around site)
+      (walked_attempt search (walked_scoped n) d around site)
+
+  -- so does one by limits or without
+  walked_outermost : (limits : Option Limits) (n : ℕ) → WalksBy (outermost dialect world local scope limits n)
+  walked_outermost None n = walked_scoped n
+  walked_outermost (Some limits) zero = λ around f. walked_list None tt (suc (size f)) around f
+  walked_outermost (Some limits) (suc n) = λ around f. walked_list (Some (limited dialect world local scope limits n)) (walked_limited limits n) (suc (size f)) around f
+
 -- so do the members of a text, one after another
 module _ (layers : Layers) (depth : ℕ) where
   walked_member : (before : List Definition) (piece : Forest) (d : Option Definition) → AreWalked (output_of (member layers depth before piece d))
   walked_member before piece None =
-      walked_scoped layers.world.dialect layers.world (λ d. d) (found_in layers.world.dialect before) depth (without_locals Top None) piece
+      walked_outermost layers.world.dialect layers.world (λ d. d) (found_in layers.world.dialect before) layers.world.dialect.limits depth (without_locals Top None) piece
   walked_member before piece (Some d) = walked_trees None empty
 
   pub walked_members : (before : List Definition) (ps : List Forest) → AreWalked (flat_map output_of (members_after layers depth before ps))

@@ -17,7 +17,8 @@ use Rattle.expander_session.specs.Count.{Looked, expanded_count, found_piece, is
 use Rattle.expander_model.specs.Definitions.{Definition, definition_of}
 use Rattle.expander_session.specs.Expanded.{Expanded}
 use Rattle.expander_model.specs.Expansion.{World, Outcome}
-use Rattle.expander_model.specs.Scoping.{expanded, found_in}
+use Rattle.expander_model.specs.Scoping.{found_in}
+use Rattle.expander_model.specs.Limits.{expanded}
 use Rattle.expander_model.specs.Held.{HasNumber, IsNumbered, Known, Met, Numbered, StandFromFirst, Stands, Tells, first_place, kept_after, kept_of, mets_after, nearest_met, numbered_scope, numbered_world, present_definition, resolve, resolve_definition, unnumbered}
 use Rattle.expander_model.specs.DefinitionTrees.{definition_trees}
 use Rattle.expander_session.specs.Laws.{FindsAsBefore, IsFoundAgain}

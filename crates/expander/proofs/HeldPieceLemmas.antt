@@ -6,7 +6,7 @@ use Rattle.expander_session.specs.Count.{is_same}
 use Rattle.expander_model.specs.EqualTrees.{same_forest}
 use Rattle.expander_model.specs.Definitions.{Definition}
 use Rattle.expander_model.specs.Expansion.{World}
-use Rattle.expander_model.specs.Scoping.{expanded}
+use Rattle.expander_model.specs.Limits.{expanded}
 use Rattle.expander_model.specs.Held.{IsMet, Known, Met, TellsApart, numbered_scope, numbered_world, unnumbered}
 use Rattle.expander_session.specs.Reuse.{HeldPiece, IsHeld, looked_at, looked_held, matches}
 use Rattle.expander_session.proofs.ReuseLemmas.{fresh_is_held, match_is, match_is_same, met_scope}

@@ -24,7 +24,8 @@ use Rattle.expander_model.specs.Faults.{fault_at}
 use Rattle.expander_session.specs.Laws.{Fails, AreAllPlain, HasNoWord}
 use Rattle.expander_model.specs.Meaning.{Layers, members_after, output_of, member_faults}
 use Rattle.expander_model.specs.Pieces.{cut, put_together}
-use Rattle.expander_model.specs.Scoping.{found_in, Scoped, expanded}
+use Rattle.expander_model.specs.Scoping.{found_in, Scoped}
+use Rattle.expander_model.specs.Limits.{expanded}
 use Rattle.expander_model.specs.declared.scope_rules.ScopeRules.TheVariants.{TopLevel, Rust}
 use Rattle.textual_scope.specs.Keywords.{HasNoKeyword}
 use Rattle.expander_model.proofs.SplittingLemmas.{put_together-cut}
@@ -177,7 +178,7 @@ module _ (layers : Layers) (depth : ℕ) where
 
   -- a piece that by the scope rules has no definition inside
   bare_by : layers.world.dialect.cfg ≡ None → (p : Forest) → (layers.world.dialect.scope ≡ Rust → HasNoKeyword p) → IsBare layers depth p
-  bare_by whole p h = ap (λ (a : Scoped Definition). a.outcome) (unfound_outermost layers.world (λ d. d) None depth p layers.world.dialect whole h)
+  bare_by whole p h = ap (λ (a : Scoped Definition). a.outcome) (unfound_outermost layers.world (λ d. d) layers.world.dialect.limits depth p layers.world.dialect whole h)
 
   -- where a name finds pieces of texts alone
   plainly_bare : layers.world.dialect.scope ≡ TopLevel → layers.world.dialect.cfg ≡ None → (ps : List Forest) → All (IsBare layers depth) ps

@@ -12,7 +12,8 @@ use Rattle.expander_session.specs.Count.{Looked, expanded_count, is_same, looked
 use Rattle.expander_model.specs.declared.dialect.Dialect.{Dialect}
 use Rattle.expander_model.specs.Definitions.{Definition, definition_of}
 use Rattle.expander_model.specs.Expansion.{World}
-use Rattle.expander_model.specs.Scoping.{expanded, is_found}
+use Rattle.expander_model.specs.Scoping.{is_found}
+use Rattle.expander_model.specs.Limits.{expanded}
 use Rattle.expander_model.specs.Held.{HasNumber, IsMet, Known, Met, Numbered, StandFromFirst, Tells, kept_after, kept_of, met_of, nearest_met, numbered_of, numbered_scope, numbered_world, with_met, unnumbered}
 use Rattle.expander_model.specs.DefinitionTrees.{definition_trees}
 use Rattle.expander_session.specs.Laws.{ExpandsNothing}

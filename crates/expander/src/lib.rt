@@ -7,6 +7,7 @@ pub use bridge::{ReadFault, ReadFaultKind, TokenRanges};
 pub use cfg_options::{CfgFault, CfgOptions};
 pub use expander_model::dialect::Dialect;
 pub use expander_model::fault::{Fault, FaultKind};
+pub use expander_model::limits::Limits;
 pub use expander_model::scope_rules::ScopeRules;
 pub use expander_run::options::Options;
 pub use expander_run::program::{Status, run, run_after, run_with};

@@ -28,6 +28,7 @@ kind_number kinds.BrokenDefinition = 1
 kind_number kinds.RecursionLimit = 2
 kind_number kinds.NestedDefinition = 3
 kind_number kinds.Unspellable = 4
+kind_number kinds.TooLarge = 5
 
 abbrev pub read_kind_number : ReadFaultKind → ℕ
 read_kind_number reads.BadToken = 0

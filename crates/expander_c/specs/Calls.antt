@@ -1,5 +1,5 @@
 -- What the calls do to a session and its last answer, and what their codes mean.
-use Rattle.std.specs.Prelude.{◌≡◌, ℕ, ◌+◌, ◌-◌, ◌<◌, ◌≤◌, ◌^◌, List, [], length, Bool, Option, Some, None, IsUtf8, IsCharBoundary, ⊤, ◌⊎◌, true, false, nat_eq, if◌then◌else◌, option_map}
+use Rattle.std.specs.Prelude.{◌≡◌, ℕ, ◌+◌, ◌-◌, ◌<◌, ◌≤◌, ◌^◌, List, [], length, Bool, ◌&&◌, Option, Some, None, IsUtf8, IsCharBoundary, ⊤, ◌⊎◌, true, false, nat_eq, if◌then◌else◌, option_map}
 use Rattle.rustc_lexer.specs.Edit.{edited}
 use Rattle.any_grammar.specs.Answer.{answer}
 use Rattle.any_grammar.specs.declared.chosen.AnyGrammar.{AnyGrammar}
@@ -12,6 +12,7 @@ use Rattle.bridge.specs.declared.reading.outcome.ReadFault.{ReadFault}
 use Rattle.cfg_options.specs.declared.options.CfgOptions.{CfgOptions}
 use Rattle.expander_model.specs.Meaning.{Layers}
 use Rattle.expander_model.specs.declared.dialect.Dialect.{Dialect}
+use Rattle.expander_model.specs.declared.limits.Limits.{Limits}
 use Rattle.expander_model.specs.Dialects.{rust, top_level}
 use Rattle.expander_sources.specs.Homes.{Home, home_named}
 use Rattle.expander_sources.specs.SourceReads.{IsSourceOf}
@@ -58,21 +59,39 @@ dialect_of number =
     else if nat_eq number 1 then Some rust
     else None
 
--- a dialect with this set of options for conditional compilation
-abbrev pub under : Option CfgOptions → Dialect → Dialect
-under set dialect = record dialect { cfg = set }
+-- a number as a limit: 0 is none
+abbrev pub limit_of : ℕ → ℕ
+limit_of n = if nat_eq n 0 then 2 ^ 64 - 1 else n
+
+-- how much one call may make, if a number limits it
+abbrev pub limits_of : SessionOptions → Option Limits
+limits_of options =
+    if nat_eq options.calls 0 && nat_eq options.tokens 0 then None
+    else Some (record { calls = limit_of options.calls; tokens = limit_of options.tokens })
+
+-- a dialect with this set of options for conditional compilation, and these limits
+abbrev pub under : Option CfgOptions → Option Limits → Dialect → Dialect
+under set limits dialect = record dialect { cfg = set; limits = limits }
 
 -- by this edition, levels and grammar, where names find pieces of texts alone
 abbrev pub top_options : ℕ → ℕ → ℕ → SessionOptions
 top_options year levels number =
-    record { edition = year; grammar = number; scope = 0; depth = levels }
+    record {
+      edition = year;
+      grammar = number;
+      scope = 0;
+      depth = levels;
+      calls = 0;
+      tokens = 0;
+    }
 
 -- a new session over this text, by these options and under this set, before any answer
 pub record IsNew (bytes : List ℕ) (options : SessionOptions) (set : Option CfgOptions)
     (live : Live) : Type 0 where
   pub edition : edition_of options.edition ≡ Some live.session.edition
   pub grammar : grammar_of options.grammar live.session.edition ≡ Some live.session.grammar
-  pub dialect : option_map (under set) (dialect_of options.scope) ≡ Some live.session.dialect
+  pub dialect : option_map (under set (limits_of options)) (dialect_of options.scope)
+      ≡ Some live.session.dialect
   pub text : live.session.text ≡ bytes
   pub depth : live.session.depth ≡ options.depth
   pub prelude : live.session.prelude ≡ []

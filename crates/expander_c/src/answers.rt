@@ -61,6 +61,7 @@ pub(crate) fn told(fault: Fault) -> ToldFault
         FaultKind::RecursionLimit => 2,
         FaultKind::NestedDefinition => 3,
         FaultKind::Unspellable => 4,
+        FaultKind::TooLarge => 5,
     };
     let range = byte_range(fault.range);
     ToldFault { kind, range }

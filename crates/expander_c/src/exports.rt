@@ -33,6 +33,8 @@ pub extern "C" fn expander_raw_open(
         grammar,
         scope: 0,
         depth,
+        calls: 0,
+        tokens: 0,
     };
     calls::open(alloc, handle, text, &options, None).number()
 }

@@ -1,6 +1,6 @@
 //! A session with its last answer: what a handle of C's holds.
 ghost use Rattle.std.specs.Prelude.{◌≡◌, ◌<◌, ◌^◌, length, IfOk, IfErr, IsUtf8, MatchResult};
-ghost use Rattle.expander_c.specs.Calls.{BoundaryTold, CannotOpen, EditTold, ExpandTold, FitTold, IsHome, IsNew, IsSource, NoHome, NoSource, NoText, PreludeTold, SourceAdded, dialect_of, edition_of, grammar_of};
+ghost use Rattle.expander_c.specs.Calls.{BoundaryTold, CannotOpen, EditTold, ExpandTold, FitTold, IsHome, IsNew, IsSource, NoHome, NoSource, NoText, PreludeTold, SourceAdded, dialect_of, edition_of, grammar_of, limit_of, limits_of};
 
 use crate::answers::{SourceTold, told_unread};
 use crate::code::{Code, refused};
@@ -8,7 +8,7 @@ use crate::options::SessionOptions;
 use crate::sources::{Pick, Sources};
 use any_grammar::AnyGrammar;
 use cfg_options::CfgOptions;
-use expander::{Dialect, Edition, Expansion, Home, ReadFault, Reply, Session, Source, SourceRead};
+use expander::{Dialect, Edition, Expansion, Home, Limits, ReadFault, Reply, Session, Source, SourceRead};
 use std::alloc::{AllocError, Global};
 use tt_data::TtFault;
 
@@ -64,6 +64,26 @@ fn grammar_of(number: u32, edition: Edition) -> Option<AnyGrammar>
         1 => Some(AnyGrammar::Rust(edition)),
         _ => None,
     }
+}
+
+// A number as a limit.
+fn limit_of(n: usize) -> usize
+    ensures { result ≡ limit_of n }
+{
+    if n == 0 { usize::MAX } else { n }
+}
+
+// How much one call may make, if a number limits it.
+fn limits_of(options: &SessionOptions) -> Option<Limits>
+    ensures { result ≡ limits_of options.now }
+{
+    if options.calls == 0 && options.tokens == 0 {
+        return None;
+    }
+    Some(Limits {
+        calls: limit_of(options.calls),
+        tokens: limit_of(options.tokens),
+    })
 }
 
 // The dialect of a number of rules of scopes.
@@ -150,7 +170,12 @@ impl Live {
         let Some(Dialect { scope, items, .. }) = dialect_of(options.scope) else {
             return Err(Code::Scope);
         };
-        let dialect = Dialect { scope, items, cfg };
+        let dialect = Dialect {
+            scope,
+            items,
+            cfg,
+            limits: limits_of(options),
+        };
         let text = text_in(text)?;
         match Session::with_dialect(alloc, text, grammar, edition, dialect, options.depth) {
             Ok(session) => Ok(Live {

@@ -12,4 +12,8 @@ pub struct SessionOptions {
     pub scope: u32,
     /// How many levels of calls are expanded.
     pub depth: u8,
+    /// How many calls may be expanded for one call of the text. 0 for no limit.
+    pub calls: usize,
+    /// How many tokens their results may have together. 0 for no limit.
+    pub tokens: usize,
 }

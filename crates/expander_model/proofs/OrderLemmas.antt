@@ -7,7 +7,7 @@ use Rattle.std.proofs.lemmas.Bool.{eq-eqb, ne_eqb, lt-ltb, le-ltb, ltb-true, ltb
 use Rattle.expander_model.specs.contracts.fault.FaultKindOrd.TheImpl as kind_ord
 use Rattle.expander_model.specs.declared.fault.Fault.{Fault}
 use Rattle.expander_model.specs.declared.fault.FaultKind.{FaultKind}
-use Rattle.expander_model.specs.declared.fault.FaultKind.TheVariants.{CannotExpand, BrokenDefinition, RecursionLimit, NestedDefinition, Unspellable}
+use Rattle.expander_model.specs.declared.fault.FaultKind.TheVariants.{CannotExpand, BrokenDefinition, RecursionLimit, NestedDefinition, Unspellable, TooLarge}
 use Rattle.expander_model.specs.Faults.{comes_before, kind_number}
 
 -- how two numbers stand to each other
@@ -80,7 +80,8 @@ kind_at n =
     else if nat_eq n 1 then BrokenDefinition
     else if nat_eq n 2 then RecursionLimit
     else if nat_eq n 3 then NestedDefinition
-    else Unspellable
+    else if nat_eq n 4 then Unspellable
+    else TooLarge
 
 kind_at-number : (k : FaultKind) → kind_at (kind_number k) ≡ k
 kind_at-number CannotExpand = refl
@@ -88,6 +89,7 @@ kind_at-number BrokenDefinition = refl
 kind_at-number RecursionLimit = refl
 kind_at-number NestedDefinition = refl
 kind_at-number Unspellable = refl
+kind_at-number TooLarge = refl
 
 kind_tied : (a b : FaultKind) → nat_lt (kind_number a) (kind_number b) ≡ false → nat_lt (kind_number b) (kind_number a) ≡ false → a ≡ b
 kind_tied a b e h =
@@ -144,26 +146,37 @@ kind_less CannotExpand BrokenDefinition = refl
 kind_less CannotExpand RecursionLimit = refl
 kind_less CannotExpand NestedDefinition = refl
 kind_less CannotExpand Unspellable = refl
+kind_less CannotExpand TooLarge = refl
 kind_less BrokenDefinition CannotExpand = refl
 kind_less BrokenDefinition BrokenDefinition = refl
 kind_less BrokenDefinition RecursionLimit = refl
 kind_less BrokenDefinition NestedDefinition = refl
 kind_less BrokenDefinition Unspellable = refl
+kind_less BrokenDefinition TooLarge = refl
 kind_less RecursionLimit CannotExpand = refl
 kind_less RecursionLimit BrokenDefinition = refl
 kind_less RecursionLimit RecursionLimit = refl
 kind_less RecursionLimit NestedDefinition = refl
 kind_less RecursionLimit Unspellable = refl
+kind_less RecursionLimit TooLarge = refl
 kind_less NestedDefinition CannotExpand = refl
 kind_less NestedDefinition BrokenDefinition = refl
 kind_less NestedDefinition RecursionLimit = refl
 kind_less NestedDefinition NestedDefinition = refl
 kind_less NestedDefinition Unspellable = refl
+kind_less NestedDefinition TooLarge = refl
 kind_less Unspellable CannotExpand = refl
 kind_less Unspellable BrokenDefinition = refl
 kind_less Unspellable RecursionLimit = refl
 kind_less Unspellable NestedDefinition = refl
 kind_less Unspellable Unspellable = refl
+kind_less Unspellable TooLarge = refl
+kind_less TooLarge CannotExpand = refl
+kind_less TooLarge BrokenDefinition = refl
+kind_less TooLarge RecursionLimit = refl
+kind_less TooLarge NestedDefinition = refl
+kind_less TooLarge Unspellable = refl
+kind_less TooLarge TooLarge = refl
 
 abbrev pub key_cmp : Key → Key → Ordering
 key_cmp x y = ordering_then (ordering_then (nat_cmp x.0 y.0) (nat_cmp x.1 y.1)) ((kind_ord.ghosts).cmp x.2 y.2)

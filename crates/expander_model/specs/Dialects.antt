@@ -4,13 +4,14 @@ use Rattle.expander_model.specs.declared.dialect.Dialect.{Dialect}
 use Rattle.expander_model.specs.declared.scope_rules.ScopeRules.{ScopeRules}
 use Rattle.expander_model.specs.declared.scope_rules.ScopeRules.TheVariants as rules
 
--- a name finds pieces of texts alone, each `;` stays, and conditions leave nothing out
+-- a name finds pieces of texts alone, each `;` stays, conditions leave nothing out, and nothing
+-- limits what a call makes
 abbrev pub top_level : Dialect
-top_level = record { scope = rules.TopLevel; items = false; cfg = None }
+top_level = record { scope = rules.TopLevel; items = false; cfg = None; limits = None }
 
 -- a name finds definitions of lists too, and the `;` of an item's call goes with it
 abbrev pub rust : Dialect
-rust = record { scope = rules.Rust; items = true; cfg = None }
+rust = record { scope = rules.Rust; items = true; cfg = None; limits = None }
 
 -- the one of these for scope rules
 abbrev pub dialect_by : ScopeRules → Dialect

@@ -5,7 +5,7 @@ use Rattle.tt_data.specs.declared.leaf.Leaf.TheVariants as as_leaf
 use Rattle.tt_data.specs.declared.span.Span.{Span}
 use Rattle.expander_model.specs.declared.fault.Fault.{Fault}
 use Rattle.expander_model.specs.declared.fault.FaultKind.{FaultKind}
-use Rattle.expander_model.specs.declared.fault.FaultKind.TheVariants.{CannotExpand, BrokenDefinition, RecursionLimit, NestedDefinition, Unspellable}
+use Rattle.expander_model.specs.declared.fault.FaultKind.TheVariants.{CannotExpand, BrokenDefinition, RecursionLimit, NestedDefinition, Unspellable, TooLarge}
 use Rattle.expander_model.specs.Expansion.{PlacedStep}
 use Rattle.bridge.specs.Printing.{step_span}
 use Rattle.expander_model.specs.Printing.{PrintedToken}
@@ -38,6 +38,7 @@ kind_number BrokenDefinition = 1
 kind_number RecursionLimit = 2
 kind_number NestedDefinition = 3
 kind_number Unspellable = 4
+kind_number TooLarge = 5
 
 -- by start, then by end, then by kind
 abbrev pub comes_before : Fault → Fault → Bool

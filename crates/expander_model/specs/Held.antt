@@ -12,7 +12,8 @@ use Rattle.expander_model.specs.Expansion.{World, Outcome}
 use Rattle.expander_model.specs.Meaning.{Member, plain, defining}
 use Rattle.expander_model.specs.OtherPlaces.{definition_with}
 use Rattle.expander_model.specs.Pieces.{first_start, relative}
-use Rattle.expander_model.specs.Scoping.{expanded, is_found}
+use Rattle.expander_model.specs.Scoping.{is_found}
+use Rattle.expander_model.specs.Limits.{expanded}
 use Rattle.expander_model.specs.declared.dialect.Dialect.{Dialect}
 
 -- every span in a forest has this property

@@ -5,6 +5,7 @@ pub mod Definitions
 pub mod Calls
 pub mod Expansion
 pub mod Scoping
+pub mod Limits
 pub mod Dialects
 pub mod Printing
 pub mod Faults

@@ -9,7 +9,8 @@ use Rattle.bridge.specs.declared.reading.outcome.ReadFault.{ReadFault}
 use Rattle.expander_model.specs.Pieces.{pieces}
 use Rattle.expander_model.specs.Definitions.{Definition, definition_of}
 use Rattle.expander_model.specs.Expansion.{World, Outcome, PlacedStep}
-use Rattle.expander_model.specs.Scoping.{expanded, found_in, is_out}
+use Rattle.expander_model.specs.Scoping.{found_in, is_out}
+use Rattle.expander_model.specs.Limits.{expanded}
 use Rattle.expander_model.specs.declared.scope_rules.Standing.TheVariants.{Top}
 use Rattle.expander_model.specs.Printing.{PrintedToken, visible, printed, left_out, text_of}
 use Rattle.expander_model.specs.Faults.{fault_at, nested, unspellable, in_order}

@@ -290,11 +290,3 @@ module _ {D : Type 0} (dialect : Dialect) (world : World D) (local : Definition 
   abbrev pub scoped : ℕ → Search D
   scoped zero around f = search_list None (suc (size f)) around f
   scoped (suc n) around f = search_list (Some (attempt (scoped n))) (suc (size f)) around f
-
--- the expansion of a tree with n levels left by the rules of this world, in the scope of what is
--- around the tree; `local` makes a definition of a list one of the world
-abbrev pub expanded : {D : Type 0} → World D → (Definition → D) → (List ℕ → Option D) → ℕ → Forest
-    → Outcome D
-expanded world local scope depth tree =
-    let around : Around = without_locals Top None in
-    (scoped world.dialect world local scope depth around tree).outcome

@@ -2,6 +2,7 @@
 ghost use Rattle.std.specs.Prelude.{◌≡◌};
 ghost use Rattle.expander_model.specs.Dialects.{dialect_by, rust, top_level};
 
+use crate::limits::Limits;
 use crate::scope_rules::ScopeRules;
 use cfg_options::CfgOptions;
 
@@ -14,11 +15,13 @@ pub struct Dialect {
     pub items: bool,
     /// The options that are set for conditional compilation. `None` if it leaves nothing out.
     pub cfg: Option<CfgOptions>,
+    /// How much one outermost call may make. `None` if there is no limit.
+    pub limits: Option<Limits>,
 }
 
 impl Dialect {
-    /// No option is set: names find pieces of texts alone, each `;` stays, and conditions leave
-    /// nothing out.
+    /// No option is set: names find pieces of texts alone, each `;` stays, conditions leave nothing
+    /// out, and nothing limits what a call makes.
     pub fn top_level() -> Dialect
         ensures { result ≡ top_level }
     {
@@ -26,6 +29,7 @@ impl Dialect {
             scope: ScopeRules::TopLevel,
             items: false,
             cfg: None,
+            limits: None,
         }
     }
 
@@ -38,6 +42,7 @@ impl Dialect {
             scope: ScopeRules::Rust,
             items: true,
             cfg: None,
+            limits: None,
         }
     }
 

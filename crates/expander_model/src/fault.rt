@@ -22,6 +22,8 @@ pub enum FaultKind {
     NestedDefinition,
     /// A token has no spelling and was omitted from the output.
     Unspellable,
+    /// The call makes more than the limits say.
+    TooLarge,
 }
 
 /// A fault, and the bytes of the text that it is reported at.

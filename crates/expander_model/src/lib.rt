@@ -13,6 +13,7 @@ pub mod hashed_tree;
 mod items;
 pub mod laws;
 pub mod left_out;
+pub mod limits;
 pub mod relative_spans;
 pub mod scope_rules;
 pub mod split;

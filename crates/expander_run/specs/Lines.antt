@@ -5,7 +5,7 @@ use Rattle.bridge.specs.declared.reading.outcome.ReadFaultKind.{ReadFaultKind}
 use Rattle.bridge.specs.declared.reading.outcome.ReadFaultKind.TheVariants.{BadToken, CloserDoesNotFit, GroupLeftOpen}
 use Rattle.expander_model.specs.declared.fault.Fault.{Fault}
 use Rattle.expander_model.specs.declared.fault.FaultKind.{FaultKind}
-use Rattle.expander_model.specs.declared.fault.FaultKind.TheVariants.{CannotExpand, BrokenDefinition, RecursionLimit, NestedDefinition, Unspellable}
+use Rattle.expander_model.specs.declared.fault.FaultKind.TheVariants.{CannotExpand, BrokenDefinition, RecursionLimit, NestedDefinition, Unspellable, TooLarge}
 use Rattle.expander_run.specs.declared.stop.Stop.{Stop}
 use Rattle.expander_run.specs.declared.stop.Stop.TheVariants.{NotUtf8, TooLong, ReadFailed, WriteFailed, Refused}
 use Rattle.expander_scope.specs.declared.refusal.Refusal.{Refusal}
@@ -36,6 +36,7 @@ fault_words BrokenDefinition = codes "broken macro definition"
 fault_words RecursionLimit = codes "recursion limit reached"
 fault_words NestedDefinition = codes "macro definition in the output"
 fault_words Unspellable = codes "token without a spelling"
+fault_words TooLarge = codes "the expansion of this call is too large"
 
 -- the words for a reading fault
 abbrev pub read_fault_words : ReadFaultKind → List ℕ

@@ -93,6 +93,7 @@ pub fn fault_words(kind: FaultKind) -> &'static str
         FaultKind::RecursionLimit => "recursion limit reached",
         FaultKind::NestedDefinition => "macro definition in the output",
         FaultKind::Unspellable => "token without a spelling",
+        FaultKind::TooLarge => "the expansion of this call is too large",
     }
 }
 

@@ -14,36 +14,35 @@ use Rattle.expander_model.specs.Expansion.{World, Outcome, CallSite, PlacedStep,
 use Rattle.expander_model.specs.Held.{Numbered, unnumbered}
 use Rattle.expander_model.specs.Dialects.{top_level}
 use Rattle.expander_model.specs.PieceStates.{after_call}
-use Rattle.expander_model.specs.Scoping.{Around, Scoped, Expander, at_call, at_key, expanded, fitted, found_at, in_brackets, is_alone_in, is_replaced, kept_call, looked_up, only, scoped, unbroken, without_locals}
+use Rattle.expander_model.specs.Scoping.{Around, Attempt, Scoped, Expander, at_call, at_key, fitted, found_at, in_brackets, is_alone_in, is_replaced, kept_call, looked_up, only, scoped, unbroken, without_locals}
+use Rattle.expander_model.specs.Limits.{expanded, outermost, Noted, Notes, Passed, definition, limited, looked_in, note_of, noted, noted_world, unnoted, until_passed, within}
+use Rattle.expander_model.specs.declared.limits.Limits.{Limits}
 use Rattle.expander_model.specs.declared.begun.Begun.{Begun}
 use Rattle.expander_model.specs.declared.dialect.Dialect.{Dialect}
 use Rattle.expander_model.specs.declared.call.Call.{Call}
 use Rattle.expander_model.specs.declared.scope_rules.Standing.TheVariants.{Argument, Top}
 use Rattle.expander_model.specs.declared.fault.FaultKind.{FaultKind}
-use Rattle.expander_model.specs.declared.fault.FaultKind.TheVariants.{CannotExpand, BrokenDefinition, RecursionLimit}
+use Rattle.expander_model.specs.declared.fault.FaultKind.TheVariants.{CannotExpand, BrokenDefinition, RecursionLimit, TooLarge}
 use Rattle.expander_model.specs.Changes.{find_with}
-use Rattle.textual_scope.specs.Limits.{Noted, Notes, definition, looked_in, note_of, noted, noted_world, unnoted}
-use Rattle.textual_scope.proofs.NoteLemmas.{looked_in-append, unnoted-noted}
-use Rattle.expander_scope.specs.Expanding.{noted_local, noted_scope, deeper_at, searched, answer_at, answer, makes_too_many, Adds, Expands}
+use Rattle.textual_scope.proofs.NoteLemmas.{SameDeeper, SameFrom, looked_in-append, unnoted-list, unnoted-noted, without_notes}
+use Rattle.expander_scope.specs.Expanding.{Levels, Adds, Expands, among_notes, answer, answer_at, as_noted, deeper_at, expander_by, makes_too_many, noted_local, noted_scope, searched}
+use Rattle.expander_scope.specs.Spending.{BurstsFirst, Spends, notes_with, passing}
 use Rattle.expander_scope.specs.ListsLeft.{IsAhead, IsOutAhead, Left, Place, all_left, groups_left, in_list, list_left, then_left}
 use Rattle.expander_scope.specs.Outcomes.{find_of, parts_of}
 use Rattle.expander_scope.specs.Sinks.{TakesMore}
 use Rattle.expander_scope.specs.Turns.{begun_behind, broken_at, is_bare, kept_left, local_at, lookups_of, resolved}
 use Rattle.expander_scope.specs.declared.expand.Expanding.{Expanding}
 use Rattle.expander_scope.proofs.ListLemmas.{IsPlain, called_in, here_in, left_call, passed_in, scoped_is, takes_in, then_assoc}
-use Rattle.expander_scope.proofs.OutcomeLemmas.{or_first, or_later}
+use Rattle.expander_scope.proofs.OutcomeLemmas.{or_false, or_first, or_later}
 use Rattle.expander_scope.proofs.SinkLemmas.{takes_both}
+use Rattle.expander_scope.proofs.SpendingLemmas.{bursts_here, bursts_note, none_passed_note, passing_note, spends_none, spends_nothing}
 use Rattle.expander_scope.proofs.TurnLemmas.{IsCall, is_open, names_alone, joined_call, visible_call}
 
 -- look-ups and notes alone
 abbrev pub looks : Notes Numbered → Outcome (Noted Numbered)
 looks xs = record { steps = []; faults = []; finds = xs; bursts = false }
 
--- look-ups among notes
-abbrev pub among_notes : List (List ℕ × Option Numbered) → Notes Numbered
-among_notes xs = map (find_with definition) xs
-
-lookups_among : (xs : List (List ℕ × Option Numbered)) (ys : Notes Numbered) → looked_in (among_notes xs ++ ys) ≡ xs ++ looked_in ys
+pub lookups_among : (xs : List (List ℕ × Option Numbered)) (ys : Notes Numbered) → looked_in (among_notes xs ++ ys) ≡ xs ++ looked_in ys
 lookups_among [] ys = refl
 lookups_among ((key, Some d) ∷ xs) ys = ap (λ fs. (key, Some d) ∷ fs) (lookups_among xs ys)
 lookups_among ((key, None) ∷ xs) ys = ap (λ fs. (key, None) ∷ fs) (lookups_among xs ys)
@@ -126,70 +125,6 @@ module _ {S : Type 0} (Has : S → List PlacedStep → Type 0) where
 
 -- ---- what a definition says
 
-module _ (dialect : Dialect) (world : World Numbered) (scope : List ℕ → Option Numbered) (d : Numbered) (around : Around) (site : CallSite) where
-  abbrev of_call : Bool → ℕ → Scoped (Noted Numbered)
-  of_call broken depth = unbroken dialect (noted_world world) noted_local (noted_scope scope) (definition d) broken (deeper_at dialect world scope depth) around site
-
-  -- the search of a result, one level deeper
-  abbrev pub deeper : ℕ → Forest → Scoped (Noted Numbered)
-  deeper depth g = searched dialect world scope (depth - 1) (record around { outer = Some (unwrap_or around.outer site.at) }) g
-
-  -- behind its note, and with what it makes of too many tokens
-  abbrev pub with_note : Notes Numbered → Bool → Scoped (Noted Numbered) → Scoped (Noted Numbered)
-  with_note notes b a = record a { outcome = followed_by (looks notes) (bursting b a.outcome) }
-
-  -- what it gives in the end, where its rules give this
-  abbrev given_by : ℕ → Option Forest → Scoped (Noted Numbered)
-  given_by n o =
-      with_note (note_of (world.bursts d site.argument) o) (world.bursts d site.argument)
-      (fitted dialect (noted_world world) noted_local (noted_scope scope) (noted dialect world unnumbered scope n) around site o)
-
-  -- a call stays with a fault, behind notes that are no look-ups
-  abbrev Stays : Scoped (Noted Numbered) → FaultKind → Type 0
-  Stays a kind = (b : Bool) × (notes : Notes Numbered) × ((looked_in notes ≡ []) × (a ≡ only (followed_by (looks notes) (bursting b (stays kind around.outer site)))))
-
-  stays_at : (broken : Bool) (depth : ℕ) (given : Option Forest) (kind : FaultKind) → world.fit d site.argument ≡ given
-      → (if broken then Err BrokenDefinition else answer_at depth given) ≡ Err kind → Stays (of_call broken depth) kind
-  stays_at true depth given kind fits e = let is : BrokenDefinition ≡ kind = cc in (false, [], (refl, ap (λ k. only (stays k around.outer site)) is))
-  stays_at false zero given kind fits e = let is : RecursionLimit ≡ kind = cc in (false, [], (refl, ap (λ k. only (stays k around.outer site)) is))
-  stays_at false (suc n) None kind fits e =
-      let is : CannotExpand ≡ kind = cc in
-      let b : Bool = world.bursts d site.argument in
-      (b, note_of b None, (no_lookups b None, ap (given_by n) fits ∙ ap (λ k. only (followed_by (looks (note_of b None)) (bursting b (stays k around.outer site)))) is))
-  stays_at false (suc n) (Some g) kind fits e = absurd (cc e)
-
-  pub stays_is : (depth : ℕ) (kind : FaultKind) → answer world d depth site.argument ≡ Err kind → Stays (of_call (world.broken d) depth) kind
-  stays_is depth kind e = stays_at (world.broken d) depth (world.fit d site.argument) kind refl e
-
-  comes_at : (broken : Bool) (depth : ℕ) (given : Option Forest) (g : Forest) → world.fit d site.argument ≡ given
-      → (if broken then Err BrokenDefinition else answer_at depth given) ≡ Ok g
-      → (0 < depth) × (of_call broken depth ≡ with_note (note_of (world.bursts d site.argument) (Some g)) (world.bursts d site.argument) (deeper depth g))
-  comes_at true depth given g fits e = absurd (cc e)
-  comes_at false zero given g fits e = absurd (cc e)
-  comes_at false (suc n) None g fits e = absurd (cc e)
-  comes_at false (suc n) (Some h) g fits e =
-      let is : h ≡ g = cc in
-      let b : Bool = world.bursts d site.argument in
-      let at : Around = record around { outer = Some (unwrap_or around.outer site.at) } in
-      let less : n ≡ suc n - 1 = omega arith in (
-        omega arith,
-        ap (given_by n) fits
-            ∙ ap (λ x. with_note (note_of b (Some x)) b (noted dialect world unnumbered scope n at x)) is
-            ∙ ap (with_note (note_of b (Some g)) b) (scoped_is dialect world scope n n at g ∙ ap (λ m. searched dialect world scope m at g) less),
-      )
-
-  pub comes_is : (depth : ℕ) (g : Forest) → answer world d depth site.argument ≡ Ok g
-      → (0 < depth) × (of_call (world.broken d) depth ≡ with_note (note_of (world.bursts d site.argument) (Some g)) (world.bursts d site.argument) (deeper depth g))
-  comes_is depth g e = comes_at (world.broken d) depth (world.fit d site.argument) g refl e
-
-  bursts_at : (broken : Bool) (n : ℕ) → (not broken && world.bursts d site.argument) ≡ true → (of_call broken (suc n)).outcome.bursts ≡ true
-  bursts_at true n e = absurd (cc e)
-  bursts_at false n e = or_first _ _ e
-
-  pub bursts_is : (depth : ℕ) → makes_too_many world d depth site.argument ≡ true → (of_call (world.broken d) depth).outcome.bursts ≡ true
-  bursts_is zero e = absurd (cc e)
-  bursts_is (suc n) e = bursts_at (world.broken d) n e
-
 and_false : (b : Bool) → (b && false) ≡ false
 and_false true = refl
 and_false false = refl
@@ -198,36 +133,286 @@ and_true : (b : Bool) → (b && true) ≡ b
 and_true true = refl
 and_true false = refl
 
--- a call is replaced where a result comes
-module _ (dialect : Dialect) (world : World Numbered) (scope : List ℕ → Option Numbered) (d : Numbered) (around : Around) (site : CallSite) where
-  abbrev replaced_at : ℕ → Bool
-  replaced_at depth = is_replaced dialect (noted_world world) noted_local (noted_scope scope) (deeper_at dialect world scope depth) (Some (definition d)) around site
-
-  comes_replaced : (depth : ℕ) (g : Forest) → answer world d depth site.argument ≡ Ok g → replaced_at depth ≡ true
-  comes_replaced depth g e = go depth (world.broken d) (world.fit d site.argument) refl refl e
-    where
-      go : (n : ℕ) (broken : Bool) (given : Option Forest) → world.broken d ≡ broken → world.fit d site.argument ≡ given
-          → (if broken then Err BrokenDefinition else answer_at n given) ≡ Ok g → replaced_at n ≡ true
-      go n true given b f e = absurd (cc e)
-      go zero false given b f e = absurd (cc e)
-      go (suc n) false None b f e = absurd (cc e)
-      go (suc n) false (Some h) b f e = ap (λ x. not x && is_some (world.fit d site.argument)) b ∙ ap is_some f
-
-  stays_unreplaced : (depth : ℕ) (kind : FaultKind) → answer world d depth site.argument ≡ Err kind → replaced_at depth ≡ false
-  stays_unreplaced depth kind e = go depth (world.broken d) (world.fit d site.argument) refl refl e
-    where
-      go : (n : ℕ) (broken : Bool) (given : Option Forest) → world.broken d ≡ broken → world.fit d site.argument ≡ given
-          → (if broken then Err BrokenDefinition else answer_at n given) ≡ Err kind → replaced_at n ≡ false
-      go zero broken given b f e = refl
-      go (suc n) true given b f e = ap (λ x. not x && is_some (world.fit d site.argument)) b
-      go (suc n) false None b f e = ap (λ x. not x && is_some (world.fit d site.argument)) b ∙ ap is_some f
-      go (suc n) false (Some h) b f e = absurd (cc e)
+-- look-ups are all among themselves
+pub looked_among : (xs : List (List ℕ × Option Numbered)) → looked_in (among_notes xs) ≡ xs
+looked_among xs = ap looked_in (sym (append-nil (among_notes xs))) ∙ lookups_among xs [] ∙ append-nil xs
 
 -- a level is left where a result comes
 pub deep : (d : Numbered) (world : World Numbered) (depth : ℕ) (argument g : Forest) → answer world d depth argument ≡ Ok g → 0 < depth
-deep d world depth argument g e =
-    (comes_is top_level world (λ name. None) d (record { standing = Argument; outer = None; locals = [] })
-    (record { at = d.definition.name.span; whole = argument; argument = argument }) depth g e).0
+deep d world depth argument g e = go (world.broken d) depth e
+  where
+    go : (broken : Bool) (n : ℕ) → (if broken then Err BrokenDefinition else answer_at n (world.fit d argument)) ≡ Ok g → 0 < n
+    go true n e = absurd (cc e)
+    go false zero e = absurd (cc e)
+    go false (suc n) e = omega arith
+
+-- a rule fits there
+fits : (d : Numbered) (world : World Numbered) (depth : ℕ) (argument g : Forest) → answer world d depth argument ≡ Ok g → (world.broken d ≡ false) × (world.fit d argument ≡ Some g)
+fits d world depth argument g e = go (world.broken d) depth (world.fit d argument) e
+  where
+    go : (broken : Bool) (n : ℕ) (o : Option Forest) → (if broken then Err BrokenDefinition else answer_at n o) ≡ Ok g → (broken ≡ false) × (o ≡ Some g)
+    go true n o e = absurd (cc e)
+    go false zero o e = absurd (cc e)
+    go false (suc n) None e = absurd (cc e)
+    go false (suc n) (Some h) e = (refl, ap Some (let is : h ≡ g = cc e in is))
+
+module _ (dialect : Dialect) (world : World Numbered) (scope : List ℕ → Option Numbered) (d : Numbered) (around : Around) (site : CallSite) where
+  abbrev expander : Option Limits → ℕ → Option (Expander (Noted Numbered))
+  expander limits depth = expander_by dialect world scope limits depth
+
+  abbrev of_call : Bool → Option Limits → ℕ → Scoped (Noted Numbered)
+  of_call broken limits depth = unbroken dialect (noted_world world) noted_local (noted_scope scope) (definition d) broken (expander limits depth) around site
+
+  -- whether it is replaced
+  abbrev replaced_at : Option Limits → ℕ → Bool
+  replaced_at limits depth = is_replaced dialect (noted_world world) noted_local (noted_scope scope) (expander limits depth) (Some (definition d)) around site
+
+  -- the surroundings of its result
+  abbrev inner : Around
+  inner = record around { outer = Some (unwrap_or around.outer site.at) }
+
+  -- the search of a result, one level deeper
+  abbrev pub deeper : ℕ → Forest → Scoped (Noted Numbered)
+  deeper depth g = searched dialect world scope (record { depth = depth - 1; limits = None }) inner g
+
+  abbrev pub bursts : Bool
+  bursts = world.bursts d site.argument
+
+  -- behind its note, and with what it makes of too many tokens
+  abbrev pub with_note : Notes Numbered → Bool → Scoped (Noted Numbered) → Scoped (Noted Numbered)
+  with_note notes b a = record a { outcome = followed_by (looks notes) (bursting b a.outcome) }
+
+  -- with that, its look-ups as notes
+  abbrev pub with_looks : Bool → Scoped Numbered → Scoped (Noted Numbered)
+  with_looks b a = as_noted (record a { outcome = bursting b a.outcome })
+
+  -- what a call is that gives this, which was searched so: where it is an outermost one by limits, its look-ups are all that is noted
+  abbrev pub made_of : Option Limits → Forest → Scoped (Noted Numbered) → Scoped (Noted Numbered)
+  made_of None g a = with_note (note_of bursts (Some g)) bursts a
+  made_of (Some limits) g a = with_looks bursts (unnoted a)
+
+  -- ---- without limits
+
+  -- what it gives in the end, where its rules give this
+  abbrev given_by : ℕ → Option Forest → Scoped (Noted Numbered)
+  given_by n o =
+      with_note (note_of bursts o) bursts
+      (fitted dialect (noted_world world) noted_local (noted_scope scope) (noted dialect world unnumbered scope n) around site o)
+
+  -- ---- by limits
+
+  -- the notes of what it gives
+  abbrev notes_by : ℕ → Option Forest → Notes Numbered
+  notes_by n o =
+      note_of bursts o ++ (fitted dialect (noted_world world) noted_local (noted_scope scope) (noted dialect world unnumbered scope n) around site o).outcome.finds
+
+  abbrev plainly : ℕ → Option Forest → Attempt Numbered
+  plainly n o =
+      let a : Scoped Numbered = fitted dialect world unnumbered scope (scoped dialect world unnumbered scope n) around site o in
+      record { replaces = is_some o; given = record a { outcome = bursting bursts a.outcome } }
+
+  -- where a limit is passed or not
+  abbrev cut_at : Option (Passed Numbered) → ℕ → Option Forest → Attempt Numbered
+  cut_at p n o = within p around site (plainly n o)
+
+  abbrev passed_by : Limits → ℕ → Option Forest → Option (Passed Numbered)
+  passed_by limits n o = until_passed limits.calls limits.tokens (notes_by n o)
+
+  -- a call that gives nothing passes none
+  nothing_passed : (limits : Limits) (n : ℕ) → passed_by limits n None ≡ None
+  nothing_passed limits n = go bursts
+    where
+      go : (b : Bool) → until_passed limits.calls limits.tokens (note_of {D = Numbered} b None ++ []) ≡ None
+      go true = refl
+      go false = refl
+
+  -- what it gives is searched so
+  result_noted : (n : ℕ) (g : Forest) → noted dialect world unnumbered scope n inner g ≡ deeper (suc n) g
+  result_noted n g =
+      let less : n ≡ suc n - 1 = omega arith in
+      scoped_is dialect world scope (record { depth = n; limits = None }) n inner g
+      ∙ ap (λ m. searched dialect world scope (record { depth = m; limits = None }) inner g) less
+
+  result_plain : (n : ℕ) (g : Forest) → scoped dialect world unnumbered scope n inner g ≡ unnoted (deeper (suc n) g)
+  result_plain n g = sym (unnoted-noted dialect world unnumbered scope n inner g) ∙ ap unnoted (result_noted n g)
+
+  passed_is : (limits : Limits) (n : ℕ) (g : Forest) → passed_by limits n (Some g) ≡ passing (Some limits) (note_of bursts (Some g) ++ (deeper (suc n) g).outcome.finds)
+  passed_is limits n g = ap (λ (a : Scoped (Noted Numbered)). until_passed limits.calls limits.tokens (note_of bursts (Some g) ++ a.outcome.finds)) (result_noted n g)
+
+  -- ---- a call that stays
+
+  -- a call stays with a fault, behind notes that are no look-ups and that cost nothing
+  pub record Stays (a : Scoped (Noted Numbered)) (kind : FaultKind) : Type 0 where
+    pub much : Bool
+    pub notes : Notes Numbered
+    pub unlooked : looked_in notes ≡ []
+    pub free : (l : Option Limits) → Spends l l notes
+    pub is : a ≡ only (followed_by (looks notes) (bursting much (stays kind around.outer site)))
+
+  stays_plainly : (kind' kind : FaultKind) → kind' ≡ kind → Stays (only (stays kind' around.outer site)) kind
+  stays_plainly kind' kind is = record { much = false; notes = []; unlooked = refl; free = spends_nothing; is = ap (λ k. only (stays k around.outer site)) is }
+
+  stays_at : (broken : Bool) (limits : Option Limits) (depth : ℕ) (given : Option Forest) (kind : FaultKind) → world.fit d site.argument ≡ given
+      → (if broken then Err BrokenDefinition else answer_at depth given) ≡ Err kind → Stays (of_call broken limits depth) kind
+  stays_at true limits depth given kind fits e = stays_plainly BrokenDefinition kind (cc e)
+  stays_at false limits zero given kind fits e = stays_plainly RecursionLimit kind (cc e)
+  stays_at false None (suc n) None kind fits e =
+      let is : CannotExpand ≡ kind = cc e in
+      record {
+        much = bursts;
+        notes = note_of bursts None;
+        unlooked = no_lookups bursts None;
+        free = λ l. spends_none l bursts;
+        is = ap (given_by n) fits ∙ ap (λ k. only (followed_by (looks (note_of bursts None)) (bursting bursts (stays k around.outer site)))) is;
+      }
+  stays_at false (Some limits) (suc n) None kind fits e =
+      let is : CannotExpand ≡ kind = cc e in
+      record {
+        much = bursts;
+        notes = [];
+        unlooked = refl;
+        free = spends_nothing;
+        is = ap (λ o. as_noted (cut_at (passed_by limits n o) n o).given) fits
+            ∙ ap (λ p. as_noted (cut_at p n None).given) (nothing_passed limits n)
+            ∙ ap (λ k. only (followed_by (looks []) (bursting bursts (stays k around.outer site)))) is;
+      }
+  stays_at false limits (suc n) (Some g) kind fits e = absurd (cc e)
+
+  pub stays_is : (limits : Option Limits) (depth : ℕ) (kind : FaultKind) → answer world d depth site.argument ≡ Err kind → Stays (of_call (world.broken d) limits depth) kind
+  stays_is limits depth kind e = stays_at (world.broken d) limits depth (world.fit d site.argument) kind refl e
+
+  unreplaced_at : (limits : Option Limits) (n : ℕ) (broken : Bool) (given : Option Forest) (kind : FaultKind) → world.broken d ≡ broken → world.fit d site.argument ≡ given
+      → (if broken then Err BrokenDefinition else answer_at n given) ≡ Err kind → replaced_at limits n ≡ false
+  unreplaced_at limits zero broken given kind b f e = refl
+  unreplaced_at None (suc n) true given kind b f e = ap (λ x. not x && is_some (world.fit d site.argument)) b
+  unreplaced_at (Some limits) (suc n) true given kind b f e = ap (λ x. not x && (cut_at (passed_by limits n (world.fit d site.argument)) n (world.fit d site.argument)).replaces) b
+  unreplaced_at None (suc n) false None kind b f e = ap (λ x. not x && is_some (world.fit d site.argument)) b ∙ ap is_some f
+  unreplaced_at (Some limits) (suc n) false None kind b f e =
+      ap (λ x. not x && (cut_at (passed_by limits n (world.fit d site.argument)) n (world.fit d site.argument)).replaces) b
+      ∙ ap (λ o. (cut_at (passed_by limits n o) n o).replaces) f
+      ∙ ap (λ p. (cut_at p n None).replaces) (nothing_passed limits n)
+  unreplaced_at limits (suc n) false (Some h) kind b f e = absurd (cc e)
+
+  pub stays_unreplaced : (limits : Option Limits) (depth : ℕ) (kind : FaultKind) → answer world d depth site.argument ≡ Err kind → replaced_at limits depth ≡ false
+  stays_unreplaced limits depth kind e = unreplaced_at limits depth (world.broken d) (world.fit d site.argument) kind refl refl e
+
+  -- ---- a call whose result comes
+
+  -- no limit is passed
+  abbrev Fits : Option Limits → ℕ → Forest → Type 0
+  Fits limits depth g = passing limits (notes_with g (deeper depth g).outcome.finds) ≡ None
+
+  comes_at : (limits : Option Limits) (depth : ℕ) (g : Forest) → world.broken d ≡ false → world.fit d site.argument ≡ Some g → 0 < depth → Fits limits depth g
+      → (of_call false limits depth ≡ made_of limits g (deeper depth g)) × (replaced_at limits depth ≡ true)
+  comes_at limits zero g b f less free = absurd (omega (arith, less))
+  comes_at None (suc n) g b f less free =
+      (ap (given_by n) f ∙ ap (with_note (note_of bursts (Some g)) bursts) (result_noted n g), ap (λ x. not x && is_some (world.fit d site.argument)) b ∙ ap is_some f)
+  comes_at (Some limits) (suc n) g b f less free =
+      let none : passed_by limits n (Some g) ≡ None = passed_is limits n g ∙ none_passed_note (Some limits) bursts g (deeper (suc n) g).outcome.finds free in (
+        ap (λ o. as_noted (cut_at (passed_by limits n o) n o).given) f ∙ ap (λ p. as_noted (cut_at p n (Some g)).given) none ∙ ap (with_looks bursts) (result_plain n g),
+        ap (λ x. not x && (cut_at (passed_by limits n (world.fit d site.argument)) n (world.fit d site.argument)).replaces) b
+            ∙ ap (λ o. (cut_at (passed_by limits n o) n o).replaces) f ∙ ap (λ p. (cut_at p n (Some g)).replaces) none,
+      )
+
+  pub comes_is : (limits : Option Limits) (depth : ℕ) (g : Forest) → answer world d depth site.argument ≡ Ok g → Fits limits depth g
+      → (of_call (world.broken d) limits depth ≡ made_of limits g (deeper depth g)) × (replaced_at limits depth ≡ true)
+  comes_is limits depth g e free =
+      let (b, f) = fits d world depth site.argument g e in
+      let is = comes_at limits depth g b f (deep d world depth site.argument g e) free in
+      (ap (λ x. of_call x limits depth) b ∙ is.0, is.1)
+
+  -- a call that makes too much stays, behind what was looked up until then
+  abbrev pub too_large_with : Bool → List (List ℕ × Option Numbered) → Scoped (Noted Numbered)
+  too_large_with b xs = only (followed_by (looks (among_notes xs)) (bursting b (stays TooLarge around.outer site)))
+
+  pub record StaysLarge (limits : Option Limits) (depth : ℕ) (g : Forest) (xs : List (List ℕ × Option Numbered)) : Type 0 where
+    pub much : Bool
+    pub is : of_call (world.broken d) limits depth ≡ too_large_with much xs
+    pub unreplaced : replaced_at limits depth ≡ false
+    pub too : BurstsFirst limits (notes_with g (deeper depth g).outcome.finds) → much ≡ true
+
+  large_at : (limits : Option Limits) (depth : ℕ) (g : Forest) → world.broken d ≡ false → world.fit d site.argument ≡ Some g → 0 < depth
+      → (p : Passed Numbered) → passing limits (notes_with g (deeper depth g).outcome.finds) ≡ Some p → StaysLarge limits depth g p.finds
+  large_at None depth g b f less p over = absurd (cc over)
+  large_at limits zero g b f less p over = absurd (omega (arith, less))
+  large_at (Some limits) (suc n) g b f less p over =
+      let q = passing_note (Some limits) bursts g (deeper (suc n) g).outcome.finds p over in
+      let so : passed_by limits n (Some g) ≡ Some q.0 = passed_is limits n g ∙ q.1.0 in
+      record {
+        much = q.0.bursts;
+        is = ap (λ x. of_call x (Some limits) (suc n)) b
+            ∙ ap (λ o. as_noted (cut_at (passed_by limits n o) n o).given) f ∙ ap (λ x. as_noted (cut_at x n (Some g)).given) so
+            ∙ large_is q.0.bursts q.0.finds ∙ ap (too_large_with q.0.bursts) q.1.1;
+        unreplaced = ap (λ x. not x && (cut_at (passed_by limits n (world.fit d site.argument)) n (world.fit d site.argument)).replaces) b
+            ∙ ap (λ o. (cut_at (passed_by limits n o) n o).replaces) f ∙ ap (λ x. (cut_at x n (Some g)).replaces) so;
+        too = λ first. bursts_note (Some limits) bursts g (deeper (suc n) g).outcome.finds first [] q.0 (ap (passing (Some limits)) (append-nil (note_of bursts (Some g) ++ (deeper (suc n) g).outcome.finds)) ∙ q.1.0);
+      }
+    where
+      large_is : (t : Bool) (xs : List (List ℕ × Option Numbered)) → as_noted (let kept : Outcome Numbered = stays TooLarge around.outer site in only (record kept { finds = xs; bursts = t })) ≡ too_large_with t xs
+      large_is t xs = λ i. only (record {
+        steps = placed around.outer (walk site.whole);
+        faults = (TooLarge, unwrap_or around.outer site.at) ∷ [];
+        finds = sym (append-nil (among_notes xs)) i;
+        bursts = sym (or_false t) i;
+      })
+
+  pub large_comes : (limits : Option Limits) (depth : ℕ) (g : Forest) → answer world d depth site.argument ≡ Ok g
+      → (p : Passed Numbered) → passing limits (notes_with g (deeper depth g).outcome.finds) ≡ Some p → StaysLarge limits depth g p.finds
+  large_comes limits depth g e p over =
+      let (b, f) = fits d world depth site.argument g e in
+      large_at limits depth g b f (deep d world depth site.argument g e) p over
+
+  -- ---- too many tokens
+
+  within_bursts : (o : Option (Passed Numbered)) (a : Attempt Numbered) → ((p : Passed Numbered) → o ≡ Some p → p.bursts ≡ true) → a.given.outcome.bursts ≡ true
+      → (within o around site a).given.outcome.bursts ≡ true
+  within_bursts None a h e = e
+  within_bursts (Some p) a h e = h p refl
+
+  -- where the call makes too many at once, its notes begin with that
+  first_here : (l : Option Limits) (n : ℕ) (o : Option Forest) → bursts ≡ true → BurstsFirst l (notes_by n o)
+  first_here l n o e =
+      subst (λ b. BurstsFirst l (note_of b o ++ (fitted dialect (noted_world world) noted_local (noted_scope scope) (noted dialect world unnumbered scope n) around site o).outcome.finds)) (sym e)
+      (bursts_here l o (fitted dialect (noted_world world) noted_local (noted_scope scope) (noted dialect world unnumbered scope n) around site o).outcome.finds)
+
+  limited_bursts : (limits : Limits) (n : ℕ) (o : Option Forest) → bursts ≡ true → (cut_at (passed_by limits n o) n o).given.outcome.bursts ≡ true
+  limited_bursts limits n o e =
+      within_bursts (passed_by limits n o) (plainly n o)
+      (λ p is. first_here (Some limits) n o e [] p (ap (passing (Some limits)) (append-nil (notes_by n o)) ∙ is))
+      (or_first bursts _ e)
+
+  bursts_at : (broken : Bool) (limits : Option Limits) (n : ℕ) → (not broken && bursts) ≡ true → (of_call broken limits (suc n)).outcome.bursts ≡ true
+  bursts_at true limits n e = absurd (cc e)
+  bursts_at false None n e = or_first _ _ e
+  bursts_at false (Some limits) n e = limited_bursts limits n (world.fit d site.argument) e
+
+  pub bursts_is : (limits : Option Limits) (depth : ℕ) → makes_too_many world d depth site.argument ≡ true → (of_call (world.broken d) limits depth).outcome.bursts ≡ true
+  bursts_is limits zero e = absurd (cc e)
+  bursts_is limits (suc n) e = bursts_at (world.broken d) limits n e
+
+  -- without limits its notes begin with that
+  notes_at : (broken : Bool) (n : ℕ) → (not broken && bursts) ≡ true → (l : Option Limits) → BurstsFirst l (of_call broken None (suc n)).outcome.finds
+  notes_at true n e l = absurd (cc e)
+  notes_at false n e l = first_here l n (world.fit d site.argument) e
+
+  pub notes_burst : (depth : ℕ) → makes_too_many world d depth site.argument ≡ true → (l : Option Limits) → BurstsFirst l (of_call (world.broken d) None depth).outcome.finds
+  notes_burst zero e l = absurd (cc e)
+  notes_burst (suc n) e l = notes_at (world.broken d) n e l
+
+  -- where its result does before a limit is passed, so does the call
+  pub result_too : (limits : Option Limits) (depth : ℕ) (g : Forest) → answer world d depth site.argument ≡ Ok g → (deeper depth g).outcome.bursts ≡ true
+      → BurstsFirst limits (notes_with g (deeper depth g).outcome.finds) → (of_call (world.broken d) limits depth).outcome.bursts ≡ true
+  result_too limits depth g e much first = go (passing limits (notes_with g (deeper depth g).outcome.finds)) refl
+    where
+      made_too : (l : Option Limits) → (made_of l g (deeper depth g)).outcome.bursts ≡ true
+      made_too None = or_later bursts _ much
+      made_too (Some l) = or_later bursts _ much
+
+      go : (o : Option (Passed Numbered)) → passing limits (notes_with g (deeper depth g).outcome.finds) ≡ o → (of_call (world.broken d) limits depth).outcome.bursts ≡ true
+      go None is = ap (λ (a : Scoped (Noted Numbered)). a.outcome.bursts) (comes_is limits depth g e is).0 ∙ made_too limits
+      go (Some p) is =
+          let l : StaysLarge limits depth g p.finds = large_comes limits depth g e p is in
+          ap (λ (a : Scoped (Noted Numbered)). a.outcome.bursts) l.is ∙ or_first l.much false (l.too first)
 
 -- what a list around it answers is no look-up
 pub no_lookup : (scope : List ℕ → Option Numbered) (locals : List Definition) (f : Forest) (c : Call) (d : Numbered) → Some d ≡ option_map unnumbered (local_at locals f c) → lookups_of scope locals f c ≡ []
@@ -240,21 +425,21 @@ no_lookup scope locals f c d is = go (local_at locals f c) is
 
 -- ---- what a call finds
 
-module _ (dialect : Dialect) (world : World Numbered) (scope : List ℕ → Option Numbered) (depth : ℕ) where
+module _ (dialect : Dialect) (world : World Numbered) (scope : List ℕ → Option Numbered) (levels : Levels) where
   module _ (around : Around) (site : CallSite) (kept : Scoped (Noted Numbered)) where
     abbrev looked : Option (Noted Numbered) → Scoped (Noted Numbered)
-    looked o = looked_up dialect (noted_world world) noted_local (noted_scope scope) o (deeper_at dialect world scope depth) around site kept
+    looked o = looked_up dialect (noted_world world) noted_local (noted_scope scope) o (deeper_at dialect world scope levels) around site kept
 
     abbrev behind_looks : List (List ℕ × Option Numbered) → Scoped (Noted Numbered) → Scoped (Noted Numbered)
     behind_looks xs a = record a { outcome = followed_by (looks (among_notes xs)) a.outcome }
 
-    by_local : (o : Option Definition) (key : List ℕ) → at_key dialect (noted_world world) noted_local (noted_scope scope) o key (deeper_at dialect world scope depth) around site kept
+    by_local : (o : Option Definition) (key : List ℕ) → at_key dialect (noted_world world) noted_local (noted_scope scope) o key (deeper_at dialect world scope levels) around site kept
         ≡ behind_looks (if is_some o then [] else (key, scope key) ∷ []) (looked (option_map definition (or_else (option_map unnumbered o) (scope key))))
     by_local None key = refl
     by_local (Some d) key = refl
 
     by_path : (path : Path) (name : Ident) → is_open path ≡ true → (let o : Option Definition = if names_alone path then nearest around.locals name.sym else None in
-        at_call dialect (noted_world world) noted_local (noted_scope scope) (deeper_at dialect world scope depth) around path name site kept
+        at_call dialect (noted_world world) noted_local (noted_scope scope) (deeper_at dialect world scope levels) around path name site kept
         ≡ behind_looks (if is_some o then [] else (key_of path name, scope (key_of path name)) ∷ []) (looked (option_map definition (or_else (option_map unnumbered o) (scope (key_of path name))))))
     by_path bare name e = by_local (nearest around.locals name.sym) name.sym
     by_path (from_crate root p q) name e = by_local None (key_of (from_crate root p q) name)
@@ -265,11 +450,11 @@ module _ (dialect : Dialect) (world : World Numbered) (scope : List ℕ → Opti
   site_of f c b k = record { at = c.name.span; whole = whole_call k.path c.name k.bang k.brackets c.argument; argument = c.argument }
 
   abbrev pub kept_of : (around : Around) (f : Forest) (c : Call) (b : Bool) → IsCall f c b → Scoped (Noted Numbered)
-  kept_of around f c b k = kept_call dialect (noted_world world) noted_local (noted_scope scope) (searched dialect world scope depth) around k.path c.name k.bang k.brackets c.argument
+  kept_of around f c b k = kept_call dialect (noted_world world) noted_local (noted_scope scope) (searched dialect world scope levels) around k.path c.name k.bang k.brackets c.argument
 
   -- what comes of a call is what its name finds, behind its look-up
   resolved_call : (around : Around) (f : Forest) (c : Call) (k : IsCall f c true)
-      → called_in dialect world scope depth around k.path c.name k.bang k.brackets c.argument
+      → called_in dialect world scope levels around k.path c.name k.bang k.brackets c.argument
       ≡ behind_looks around (site_of f c true k) (kept_of around f c true k) (lookups_of scope around.locals f c)
       (looked around (site_of f c true k) (kept_of around f c true k) (option_map definition (resolved scope around.locals f c)))
   resolved_call around f c k =
@@ -285,33 +470,33 @@ module _ (dialect : Dialect) (world : World Numbered) (scope : List ℕ → Opti
   behind_is : (gone : Bool) (s : Begun) (f : Forest) (c : Call) (b : Bool) (k : IsCall f c b) → begun_behind gone s c.from_group ≡ after_call gone s k.brackets.kind
   behind_is gone s f c b k = ap (begun_behind gone s) k.group_is
 
-  module _ (outer : Option Span) (p : Place) (plain : IsPlain dialect world scope depth p.standing p.begun p.here) where
+  module _ (outer : Option Span) (p : Place) (plain : IsPlain dialect world scope levels p.standing p.begun p.here) where
     abbrev around : Around
-    around = here_in dialect world scope depth outer p.standing p.locals
+    around = here_in dialect world scope levels outer p.standing p.locals
 
     abbrev next : List Definition → Left
-    next = groups_left dialect world scope depth outer p.groups
+    next = groups_left dialect world scope levels outer p.groups
 
     -- the place behind a call, once it has defined these; `gone` tells that a `;` right behind goes with it
     abbrev pub behind_call : Bool → Call → List Definition → Place
     behind_call gone c ds = record p { here = c.rest; begun = begun_behind gone p.begun c.from_group; locals = ds ++ p.locals }
 
     -- whether it does
-    abbrev takes : (c : Call) (b : Bool) → IsCall p.here c b → Bool
-    takes c b k = takes_in dialect world scope depth p.begun around k.path c.name k.bang k.brackets c.argument
+    abbrev pub takes : (c : Call) (b : Bool) → IsCall p.here c b → Bool
+    takes c b k = takes_in dialect world scope levels p.begun around k.path c.name k.bang k.brackets c.argument
 
     -- what is left at a call: what comes of it, and what is left behind it
     call_left : (c : Call) (b : Bool) (k : IsCall p.here c b) (gone : Bool) → takes c b k ≡ gone
-        → (let a : Scoped (Noted Numbered) = called_in dialect world scope depth around k.path c.name k.bang k.brackets c.argument in
-        all_left dialect world scope depth outer p ≡ then_left a.outcome (all_left dialect world scope depth outer (behind_call gone c a.defines)))
+        → (let a : Scoped (Noted Numbered) = called_in dialect world scope levels around k.path c.name k.bang k.brackets c.argument in
+        all_left dialect world scope levels outer p ≡ then_left a.outcome (all_left dialect world scope levels outer (behind_call gone c a.defines)))
     call_left c b k gone e =
-        let a : Scoped (Noted Numbered) = called_in dialect world scope depth around k.path c.name k.bang k.brackets c.argument in
+        let a : Scoped (Noted Numbered) = called_in dialect world scope levels around k.path c.name k.bang k.brackets c.argument in
         let is = joined_call p.here c b k in
-        passed_in dialect world scope depth outer p.begun (after_call (takes c b k) p.begun k.brackets.kind) p.standing p.locals p.here c.rest a next
-        (ap (list_left dialect world scope depth p.begun around) is
-        ∙ left_call dialect world scope depth p.begun around k.path c.name k.bang k.brackets c.argument c.rest k.of_call
+        passed_in dialect world scope levels outer p.begun (after_call (takes c b k) p.begun k.brackets.kind) p.standing p.locals p.here c.rest a next
+        (ap (list_left dialect world scope levels p.begun around) is
+        ∙ left_call dialect world scope levels p.begun around k.path c.name k.bang k.brackets c.argument c.rest k.of_call
         ((λ v. subst (λ f. IsOutAhead dialect.cfg p.standing f None) is (plain.0 v)), (λ u v. subst (λ f. IsAhead f None) is (plain.1 u v))))
-        ∙ ap (λ t. then_left a.outcome (in_list dialect world scope depth outer t p.standing (a.defines ++ p.locals) c.rest next))
+        ∙ ap (λ t. then_left a.outcome (in_list dialect world scope levels outer t p.standing (a.defines ++ p.locals) c.rest next))
         (ap (λ x. after_call x p.begun k.brackets.kind) e ∙ sym (behind_is gone p.begun p.here c b k))
 
     visible : {c : Call} {b : Bool} → (k : IsCall p.here c b) → is_visible k.brackets.kind ≡ true
@@ -320,18 +505,18 @@ module _ (dialect : Dialect) (world : World Numbered) (scope : List ℕ → Opti
     -- a call that stays is kept up to its group, which is searched as an argument
     kept_is : (c : Call) (b : Bool) (k : IsCall p.here c b) (xs : Notes Numbered)
         → (let a : Scoped (Noted Numbered) = kept_of around p.here c b k in
-        then_left (followed_by (looks xs) a.outcome) (all_left dialect world scope depth outer (behind_call false c []))
-        ≡ then_left (looks xs) (kept_left dialect world scope depth outer (before_group k.path c.name k.bang) c.from_group p))
+        then_left (followed_by (looks xs) a.outcome) (all_left dialect world scope levels outer (behind_call false c []))
+        ≡ then_left (looks xs) (kept_left dialect world scope levels outer (before_group k.path c.name k.bang) c.from_group p))
     kept_is c b k xs =
         let before : Outcome (Noted Numbered) = just outer (walk (before_group k.path c.name k.bang)) in
-        let a : Scoped (Noted Numbered) = searched dialect world scope depth (record around { standing = Argument }) c.argument in
+        let a : Scoped (Noted Numbered) = searched dialect world scope levels (record around { standing = Argument }) c.argument in
         let g : Scoped (Noted Numbered) = in_brackets outer k.brackets a in
-        let later : List Definition → Left = λ ls. in_list dialect world scope depth outer (after_call false p.begun k.brackets.kind) p.standing ls c.rest next in
-        ap (λ t. then_left (followed_by (looks xs) (followed_by before g.outcome)) (in_list dialect world scope depth outer t p.standing p.locals c.rest next)) (behind_is false p.begun p.here c b k)
+        let later : List Definition → Left = λ ls. in_list dialect world scope levels outer (after_call false p.begun k.brackets.kind) p.standing ls c.rest next in
+        ap (λ t. then_left (followed_by (looks xs) (followed_by before g.outcome)) (in_list dialect world scope levels outer t p.standing p.locals c.rest next)) (behind_is false p.begun p.here c b k)
         ∙ ap (λ v. then_left (followed_by (looks xs) (followed_by before g.outcome)) (later ((if v then [] else a.defines) ++ p.locals))) (sym (visible k))
         ∙ then_assoc (looks xs) (followed_by before g.outcome) (later (g.defines ++ p.locals))
         ∙ ap (then_left (looks xs)) (then_assoc before g.outcome (later (g.defines ++ p.locals)))
-        ∙ ap (λ f. then_left (looks xs) (kept_left dialect world scope depth outer (before_group k.path c.name k.bang) f p)) (sym k.group_is)
+        ∙ ap (λ f. then_left (looks xs) (kept_left dialect world scope levels outer (before_group k.path c.name k.bang) f p)) (sym k.group_is)
 
     -- what the name of a call finds
     finds_by : (path : Path) (name : Ident) → is_open path ≡ true → (let o : Option Definition = if names_alone path then nearest p.locals name.sym else None in
@@ -355,16 +540,17 @@ module _ (dialect : Dialect) (world : World Numbered) (scope : List ℕ → Opti
 
     -- a call that is not replaced takes nothing
     takes_none : (c : Call) (b : Bool) (k : IsCall p.here c b) (o : Option (Noted Numbered)) → found_at dialect (noted_world world) noted_local (noted_scope scope) around k.path c.name ≡ o
-        → is_replaced dialect (noted_world world) noted_local (noted_scope scope) (deeper_at dialect world scope depth) o around (site_of p.here c b k) ≡ false → takes c b k ≡ false
+        → is_replaced dialect (noted_world world) noted_local (noted_scope scope) (deeper_at dialect world scope levels) o around (site_of p.here c b k) ≡ false → takes c b k ≡ false
     takes_none c b k o finds not_so =
-        ap (λ x. stands_alone c b k && is_replaced dialect (noted_world world) noted_local (noted_scope scope) (deeper_at dialect world scope depth) x around (site_of p.here c b k)) finds
+        ap (λ x. stands_alone c b k && is_replaced dialect (noted_world world) noted_local (noted_scope scope) (deeper_at dialect world scope levels) x around (site_of p.here c b k)) finds
         ∙ ap (λ x. stands_alone c b k && x) not_so ∙ and_false (stands_alone c b k)
 
-    takes_some : (c : Call) (k : IsCall p.here c true) (d : Numbered) → resolved scope p.locals p.here c ≡ Some d → (g : Forest) → answer world d depth c.argument ≡ Ok g
+    takes_some : (c : Call) (k : IsCall p.here c true) (d : Numbered) → resolved scope p.locals p.here c ≡ Some d
+        → is_replaced dialect (noted_world world) noted_local (noted_scope scope) (deeper_at dialect world scope levels) (Some (definition d)) around (site_of p.here c true k) ≡ true
         → takes c true k ≡ stands_alone c true k
-    takes_some c k d finds g says =
-        ap (λ x. stands_alone c true k && is_replaced dialect (noted_world world) noted_local (noted_scope scope) (deeper_at dialect world scope depth) x around (site_of p.here c true k)) (found_is c k ∙ ap (option_map definition) finds)
-        ∙ ap (λ x. stands_alone c true k && x) (comes_replaced dialect world scope d around (site_of p.here c true k) depth g says) ∙ and_true (stands_alone c true k)
+    takes_some c k d finds so =
+        ap (λ x. stands_alone c true k && is_replaced dialect (noted_world world) noted_local (noted_scope scope) (deeper_at dialect world scope levels) x around (site_of p.here c true k)) (found_is c k ∙ ap (option_map definition) finds)
+        ∙ ap (λ x. stands_alone c true k && x) so ∙ and_true (stands_alone c true k)
 
     nothing_replaced : (o : Option (Expander (Noted Numbered))) (site : CallSite) → is_replaced dialect (noted_world world) noted_local (noted_scope scope) o None around site ≡ false
     nothing_replaced None site = refl
@@ -372,22 +558,22 @@ module _ (dialect : Dialect) (world : World Numbered) (scope : List ℕ → Opti
 
     -- it finds nothing
     pub unknown_left : (c : Call) (k : IsCall p.here c true) → resolved scope p.locals p.here c ≡ None
-        → all_left dialect world scope depth outer p
-        ≡ then_left (looks (among_notes (lookups_of scope p.locals p.here c))) (kept_left dialect world scope depth outer (before_group k.path c.name k.bang) c.from_group p)
+        → all_left dialect world scope levels outer p
+        ≡ then_left (looks (among_notes (lookups_of scope p.locals p.here c))) (kept_left dialect world scope levels outer (before_group k.path c.name k.bang) c.from_group p)
     unknown_left c k none =
         let kept : Scoped (Noted Numbered) = kept_of around p.here c true k in
         let xs : List (List ℕ × Option Numbered) = lookups_of scope p.locals p.here c in
-        call_left c true k false (takes_none c true k None (found_is c k ∙ ap (option_map definition) none) (nothing_replaced (deeper_at dialect world scope depth) (site_of p.here c true k)))
-        ∙ ap (λ (x : Scoped (Noted Numbered)). then_left x.outcome (all_left dialect world scope depth outer (behind_call false c x.defines)))
+        call_left c true k false (takes_none c true k None (found_is c k ∙ ap (option_map definition) none) (nothing_replaced (deeper_at dialect world scope levels) (site_of p.here c true k)))
+        ∙ ap (λ (x : Scoped (Noted Numbered)). then_left x.outcome (all_left dialect world scope levels outer (behind_call false c x.defines)))
         (resolved_call around p.here c k ∙ ap (λ o. behind_looks around (site_of p.here c true k) kept xs (looked around (site_of p.here c true k) kept (option_map definition o))) none)
         ∙ kept_is c true k (among_notes xs)
 
     -- or it is none, for the `::` before it
     pub colons_left : (c : Call) (k : IsCall p.here c false)
-        → all_left dialect world scope depth outer p ≡ kept_left dialect world scope depth outer (before_group k.path c.name k.bang) c.from_group p
+        → all_left dialect world scope levels outer p ≡ kept_left dialect world scope levels outer (before_group k.path c.name k.bang) c.from_group p
     colons_left c k =
-        call_left c false k false (takes_none c false k None (finds_none k.path c.name k.is_so) (nothing_replaced (deeper_at dialect world scope depth) (site_of p.here c false k)))
-        ∙ ap (λ (x : Scoped (Noted Numbered)). then_left x.outcome (all_left dialect world scope depth outer (behind_call false c x.defines))) (not_open k.path c.name (site_of p.here c false k) k.is_so)
+        call_left c false k false (takes_none c false k None (finds_none k.path c.name k.is_so) (nothing_replaced (deeper_at dialect world scope levels) (site_of p.here c false k)))
+        ∙ ap (λ (x : Scoped (Noted Numbered)). then_left x.outcome (all_left dialect world scope levels outer (behind_call false c x.defines))) (not_open k.path c.name (site_of p.here c false k) k.is_so)
         ∙ kept_is c false k []
       where
         kept : Scoped (Noted Numbered)
@@ -399,66 +585,117 @@ module _ (dialect : Dialect) (world : World Numbered) (scope : List ℕ → Opti
         finds_none (other q r) name e = refl
 
         not_open : (path : Path) (name : Ident) (site : CallSite) → is_open path ≡ false
-            → at_call dialect (noted_world world) noted_local (noted_scope scope) (deeper_at dialect world scope depth) around path name site kept ≡ kept
+            → at_call dialect (noted_world world) noted_local (noted_scope scope) (deeper_at dialect world scope levels) around path name site kept ≡ kept
         not_open bare name site e = absurd (cc e)
         not_open (from_crate root p q) name site e = absurd (cc e)
         not_open (other p q) name site e = refl
 
     -- it finds a definition
     known_left : (c : Call) (k : IsCall p.here c true) (d : Numbered) → resolved scope p.locals p.here c ≡ Some d → (gone : Bool) → takes c true k ≡ gone → (a : Scoped (Noted Numbered))
-        → unbroken dialect (noted_world world) noted_local (noted_scope scope) (definition d) (world.broken d) (deeper_at dialect world scope depth) around (site_of p.here c true k) ≡ a
-        → all_left dialect world scope depth outer p
-        ≡ then_left (followed_by (looks (among_notes (lookups_of scope p.locals p.here c))) a.outcome) (all_left dialect world scope depth outer (behind_call gone c a.defines))
+        → unbroken dialect (noted_world world) noted_local (noted_scope scope) (definition d) (world.broken d) (deeper_at dialect world scope levels) around (site_of p.here c true k) ≡ a
+        → all_left dialect world scope levels outer p
+        ≡ then_left (followed_by (looks (among_notes (lookups_of scope p.locals p.here c))) a.outcome) (all_left dialect world scope levels outer (behind_call gone c a.defines))
     known_left c k d finds gone e a is =
         let kept : Scoped (Noted Numbered) = kept_of around p.here c true k in
         let xs : List (List ℕ × Option Numbered) = lookups_of scope p.locals p.here c in
         call_left c true k gone e
-        ∙ ap (λ (x : Scoped (Noted Numbered)). then_left x.outcome (all_left dialect world scope depth outer (behind_call gone c x.defines)))
+        ∙ ap (λ (x : Scoped (Noted Numbered)). then_left x.outcome (all_left dialect world scope levels outer (behind_call gone c x.defines)))
         (resolved_call around p.here c k ∙ ap (λ o. behind_looks around (site_of p.here c true k) kept xs (looked around (site_of p.here c true k) kept (option_map definition o))) finds
         ∙ ap (behind_looks around (site_of p.here c true k) kept xs) is)
 
-    -- and stays for a fault, behind notes that are no look-ups
-    pub stays_left : (c : Call) (k : IsCall p.here c true) (d : Numbered) → resolved scope p.locals p.here c ≡ Some d → (kind : FaultKind) → answer world d depth c.argument ≡ Err kind
-        → (b : Bool) × (notes : Notes Numbered) × ((looked_in notes ≡ []) × (all_left dialect world scope depth outer p
-        ≡ then_left (followed_by (looks (among_notes (lookups_of scope p.locals p.here c))) (followed_by (looks notes) (bursting b (stays kind outer (site_of p.here c true k)))))
-        (all_left dialect world scope depth outer (behind_call false c []))))
-    stays_left c k d finds kind says =
-        let is = stays_is dialect world scope d around (site_of p.here c true k) depth kind says in (
-          is.0,
-          is.1,
-          (
-            is.2.0,
-            known_left c k d finds false (takes_none c true k (Some (definition d)) (found_is c k ∙ ap (option_map definition) finds) (stays_unreplaced dialect world scope d around (site_of p.here c true k) depth kind says))
-                (only (followed_by (looks is.1) (bursting is.0 (stays kind outer (site_of p.here c true k))))) is.2.1,
-          ),
-        )
+    abbrev at_site : (c : Call) → IsCall p.here c true → CallSite
+    at_site c k = site_of p.here c true k
 
-    -- or its result comes in its place
-    pub comes_left : (c : Call) (k : IsCall p.here c true) (d : Numbered) → resolved scope p.locals p.here c ≡ Some d → (g : Forest) → answer world d depth c.argument ≡ Ok g
-        → (let a : Scoped (Noted Numbered) = deeper dialect world scope d around (site_of p.here c true k) depth g in
-        let b : Bool = world.bursts d c.argument in
-        all_left dialect world scope depth outer p
-        ≡ then_left (followed_by (looks (among_notes (lookups_of scope p.locals p.here c))) (followed_by (looks (note_of b (Some g))) (bursting b a.outcome)))
-        (all_left dialect world scope depth outer (behind_call (stands_alone c true k) c a.defines)))
-    comes_left c k d finds g says =
-        let site : CallSite = site_of p.here c true k in
-        let b : Bool = world.bursts d c.argument in
-        known_left c k d finds (stands_alone c true k) (takes_some c k d finds g says)
-        (with_note dialect world scope d around site (note_of b (Some g)) b (deeper dialect world scope d around site depth g))
-        (comes_is dialect world scope d around site depth g says).1
+    abbrev xs_of : Call → Notes Numbered
+    xs_of c = among_notes (lookups_of scope p.locals p.here c)
+
+    abbrev pub given_of : (c : Call) → IsCall p.here c true → Numbered → Forest → Scoped (Noted Numbered)
+    given_of c k d g = deeper dialect world scope d around (at_site c k) levels.depth g
+
+    -- what comes of a call that gives this
+    abbrev pub made_here : (c : Call) → IsCall p.here c true → Numbered → Forest → Scoped (Noted Numbered)
+    made_here c k d g = made_of dialect world scope d around (at_site c k) levels.limits g (given_of c k d g)
+
+    -- and stays for a fault
+    pub stays_here : (c : Call) (k : IsCall p.here c true) (d : Numbered) (kind : FaultKind) → answer world d levels.depth c.argument ≡ Err kind → Stays dialect world scope d around (at_site c k)
+        (unbroken dialect (noted_world world) noted_local (noted_scope scope) (definition d) (world.broken d) (deeper_at dialect world scope levels) around (at_site c k)) kind
+    stays_here c k d kind says = stays_is dialect world scope d around (at_site c k) levels.limits levels.depth kind says
+
+    pub stays_left : (c : Call) (k : IsCall p.here c true) (d : Numbered) → resolved scope p.locals p.here c ≡ Some d → (kind : FaultKind) → (says : answer world d levels.depth c.argument ≡ Err kind)
+        → (let is = stays_here c k d kind says in all_left dialect world scope levels outer p
+        ≡ then_left (followed_by (looks (xs_of c)) (followed_by (looks is.notes) (bursting is.much (stays kind outer (at_site c k)))))
+        (all_left dialect world scope levels outer (behind_call false c [])))
+    stays_left c k d finds kind says =
+        let is = stays_here c k d kind says in
+        known_left c k d finds false
+        (takes_none c true k (Some (definition d)) (found_is c k ∙ ap (option_map definition) finds) (stays_unreplaced dialect world scope d around (at_site c k) levels.limits levels.depth kind says))
+        (only (followed_by (looks is.notes) (bursting is.much (stays kind outer (at_site c k))))) is.is
+
+    -- or its result comes in its place, if no limit is passed
+    pub comes_left : (c : Call) (k : IsCall p.here c true) (d : Numbered) → resolved scope p.locals p.here c ≡ Some d → (g : Forest) → answer world d levels.depth c.argument ≡ Ok g
+        → passing levels.limits (notes_with g (given_of c k d g).outcome.finds) ≡ None
+        → all_left dialect world scope levels outer p
+        ≡ then_left (followed_by (looks (xs_of c)) (made_here c k d g).outcome) (all_left dialect world scope levels outer (behind_call (stands_alone c true k) c (made_here c k d g).defines))
+    comes_left c k d finds g says free =
+        let is = comes_is dialect world scope d around (at_site c k) levels.limits levels.depth g says free in
+        known_left c k d finds (stands_alone c true k) (takes_some c k d finds is.1) (made_here c k d g) is.0
+
+    -- or it stays, since one is passed
+    pub large_here : (c : Call) (k : IsCall p.here c true) (d : Numbered) (g : Forest) → answer world d levels.depth c.argument ≡ Ok g
+        → (q : Passed Numbered) → passing levels.limits (notes_with g (given_of c k d g).outcome.finds) ≡ Some q
+        → StaysLarge dialect world scope d around (at_site c k) levels.limits levels.depth g q.finds
+    large_here c k d g says q over = large_comes dialect world scope d around (at_site c k) levels.limits levels.depth g says q over
+
+    pub large_left : (c : Call) (k : IsCall p.here c true) (d : Numbered) → resolved scope p.locals p.here c ≡ Some d → (g : Forest) → (says : answer world d levels.depth c.argument ≡ Ok g)
+        → (q : Passed Numbered) → (over : passing levels.limits (notes_with g (given_of c k d g).outcome.finds) ≡ Some q)
+        → all_left dialect world scope levels outer p
+        ≡ then_left (followed_by (looks (xs_of c)) (too_large_with dialect world scope d around (at_site c k) (large_here c k d g says q over).much q.finds).outcome)
+        (all_left dialect world scope levels outer (behind_call false c []))
+    large_left c k d finds g says q over =
+        let is = large_here c k d g says q over in
+        known_left c k d finds false (takes_none c true k (Some (definition d)) (found_is c k ∙ ap (option_map definition) finds) is.unreplaced)
+        (too_large_with dialect world scope d around (at_site c k) is.much q.finds) is.is
+
+    abbrev pub outcome_here : (c : Call) → IsCall p.here c true → Numbered → Scoped (Noted Numbered)
+    outcome_here c k d = unbroken dialect (noted_world world) noted_local (noted_scope scope) (definition d) (world.broken d) (deeper_at dialect world scope levels) around (at_site c k)
+
+    -- what is left there, whatever comes of it
+    any_left : (c : Call) (k : IsCall p.here c true) (d : Numbered) → resolved scope p.locals p.here c ≡ Some d
+        → all_left dialect world scope levels outer p ≡ then_left (followed_by (looks (xs_of c)) (outcome_here c k d).outcome) (all_left dialect world scope levels outer (behind_call (takes c true k) c (outcome_here c k d).defines))
+    any_left c k d finds = known_left c k d finds (takes c true k) refl (outcome_here c k d) refl
+
+    call_bursts : (c : Call) (k : IsCall p.here c true) (d : Numbered) → resolved scope p.locals p.here c ≡ Some d → (outcome_here c k d).outcome.bursts ≡ true → (all_left dialect world scope levels outer p).0.bursts ≡ true
+    call_bursts c k d finds much = ap (λ (l : Left). l.0.bursts) (any_left c k d finds) ∙ or_first _ _ much
 
     -- where the call makes too many tokens, the whole does
-    pub answer_bursts : (c : Call) (k : IsCall p.here c true) (d : Numbered) → resolved scope p.locals p.here c ≡ Some d → makes_too_many world d depth c.argument ≡ true
-        → (all_left dialect world scope depth outer p).0.bursts ≡ true
-    answer_bursts c k d finds much =
-        ap (λ (l : Left). l.0.bursts) (known_left c k d finds (takes c true k) refl (unbroken dialect (noted_world world) noted_local (noted_scope scope) (definition d) (world.broken d) (deeper_at dialect world scope depth) around (site_of p.here c true k)) refl)
-        ∙ or_first _ _ (bursts_is dialect world scope d around (site_of p.here c true k) depth much)
+    pub answer_bursts : (c : Call) (k : IsCall p.here c true) (d : Numbered) → resolved scope p.locals p.here c ≡ Some d → makes_too_many world d levels.depth c.argument ≡ true
+        → (all_left dialect world scope levels outer p).0.bursts ≡ true
+    answer_bursts c k d finds much = call_bursts c k d finds (bursts_is dialect world scope d around (at_site c k) levels.limits levels.depth much)
 
-    pub result_bursts : (c : Call) (k : IsCall p.here c true) (d : Numbered) → resolved scope p.locals p.here c ≡ Some d → (g : Forest) → answer world d depth c.argument ≡ Ok g
-        → (deeper dialect world scope d around (site_of p.here c true k) depth g).outcome.bursts ≡ true
-        → (all_left dialect world scope depth outer p).0.bursts ≡ true
-    result_bursts c k d finds g says much =
-        ap (λ (l : Left). l.0.bursts) (comes_left c k d finds g says) ∙ or_first _ _ (or_later (world.bursts d c.argument) _ much)
+    pub result_bursts : (c : Call) (k : IsCall p.here c true) (d : Numbered) → resolved scope p.locals p.here c ≡ Some d → (g : Forest) → answer world d levels.depth c.argument ≡ Ok g
+        → (given_of c k d g).outcome.bursts ≡ true → BurstsFirst levels.limits (notes_with g (given_of c k d g).outcome.finds)
+        → (all_left dialect world scope levels outer p).0.bursts ≡ true
+    result_bursts c k d finds g says much first = call_bursts c k d finds (result_too dialect world scope d around (at_site c k) levels.limits levels.depth g says much first)
+
+    -- in a result, where the notes of the call begin with too many tokens, so do all behind its look-ups
+    pub finds_left : (c : Call) (k : IsCall p.here c true) (d : Numbered) → resolved scope p.locals p.here c ≡ Some d
+        → (all_left dialect world scope levels outer p).0.finds
+        ≡ (xs_of c ++ (outcome_here c k d).outcome.finds) ++ (all_left dialect world scope levels outer (behind_call (takes c true k) c (outcome_here c k d).defines)).0.finds
+    finds_left c k d finds = ap (λ (l : Left). l.0.finds) (any_left c k d finds)
+
+    pub answer_first : (c : Call) (k : IsCall p.here c true) (d : Numbered) → levels.limits ≡ None → makes_too_many world d levels.depth c.argument ≡ true → (l : Option Limits)
+        → BurstsFirst l (outcome_here c k d).outcome.finds
+    answer_first c k d inside much l =
+        subst (λ o. BurstsFirst l (unbroken dialect (noted_world world) noted_local (noted_scope scope) (definition d) (world.broken d) (expander_by dialect world scope o levels.depth) around (at_site c k)).outcome.finds)
+        (sym inside) (notes_burst dialect world scope d around (at_site c k) levels.depth much l)
+
+    -- the notes of a result in a result
+    pub result_finds : (c : Call) (k : IsCall p.here c true) (d : Numbered) (g : Forest) → answer world d levels.depth c.argument ≡ Ok g → levels.limits ≡ None
+        → (outcome_here c k d).outcome.finds ≡ note_of (world.bursts d c.argument) (Some g) ++ (given_of c k d g).outcome.finds
+    result_finds c k d g says inside =
+        ap (λ (a : Scoped (Noted Numbered)). a.outcome.finds)
+        (comes_is dialect world scope d around (at_site c k) levels.limits levels.depth g says (ap (λ l. passing l (notes_with g (given_of c k d g).outcome.finds)) inside)).0
+        ∙ ap (λ l. (made_of dialect world scope d around (at_site c k) l g (given_of c k d g)).outcome.finds) inside
 
 -- ---- a whole tree
 
@@ -466,17 +703,39 @@ module _ (world : World Numbered) (scope : List ℕ → Option Numbered) (depth 
   abbrev whole : Outcome Numbered
   whole = expanded world unnumbered scope depth tree
 
+  abbrev whole_levels : Option Limits → Levels
+  whole_levels limits = record { depth = depth; limits = limits }
+
   abbrev found_whole : Outcome (Noted Numbered)
-  found_whole = (searched world.dialect world scope depth (without_locals Top None) tree).outcome
+  found_whole = (searched world.dialect world scope (whole_levels world.dialect.limits) (without_locals Top None) tree).outcome
 
-  -- the same without its notes
-  abbrev without_notes : Outcome Numbered
-  without_notes = (unnoted (searched world.dialect world scope depth (without_locals Top None) tree)).outcome
+  -- an expander by limits, without notes
+  noted_alike : (expand : Expander Numbered) → SameFrom (noted_by expand) expand
+  noted_alike expand d around site = let a : Attempt Numbered = expand d around site in λ i. record {
+    replaces = a.replaces;
+    given = record {
+      outcome = record {
+        steps = a.given.outcome.steps;
+        faults = a.given.outcome.faults;
+        finds = looked_among a.given.outcome.finds i;
+        bursts = a.given.outcome.bursts;
+      };
+      defines = a.given.defines;
+    };
+  }
 
-  whole_searched : whole ≡ without_notes
-  whole_searched =
-      ap (λ (a : Scoped Numbered). a.outcome) (sym (unnoted-noted world.dialect world unnumbered scope depth (without_locals Top None) tree))
-      ∙ ap (λ (a : Scoped (Noted Numbered)). (unnoted a).outcome) (scoped_is world.dialect world scope depth depth (without_locals Top None) tree)
+  unnoted_by : (limits : Option Limits) (n : ℕ) → outermost world.dialect world unnumbered scope limits n (without_locals Top None) tree
+      ≡ unnoted (searched world.dialect world scope (record { depth = n; limits = limits }) (without_locals Top None) tree)
+  unnoted_by None n =
+      sym (unnoted-noted world.dialect world unnumbered scope n (without_locals Top None) tree)
+      ∙ ap unnoted (scoped_is world.dialect world scope (record { depth = n; limits = None }) n (without_locals Top None) tree)
+  unnoted_by (Some limits) zero = sym (unnoted-list world.dialect world unnumbered scope None None tt (suc (size tree)) (without_locals Top None) tree)
+  unnoted_by (Some limits) (suc n) =
+      let expand : Expander Numbered = limited world.dialect world unnumbered scope limits n in
+      sym (unnoted-list world.dialect world unnumbered scope (Some (noted_by expand)) (Some expand) (noted_alike expand) (suc (size tree)) (without_locals Top None) tree)
+
+  whole_searched : whole ≡ (unnoted (searched world.dialect world scope (whole_levels world.dialect.limits) (without_locals Top None) tree)).outcome
+  whole_searched = ap (λ (a : Scoped Numbered). a.outcome) (unnoted_by world.dialect.limits depth)
 
   -- all was added to what had no faults and no look-ups
   pub piece_expands : {S : Type 0} (Has : S → List PlacedStep → Type 0) (old new : Expanding S) → old.faults.items ≡ [] → old.finds.items ≡ []
@@ -492,6 +751,6 @@ module _ (world : World Numbered) (scope : List ℕ → Option Numbered) (depth 
   piece_bursts much = ap (λ (o : Outcome Numbered). o.bursts) whole_searched ∙ much
 
   -- a tree without calls stays as it is
-  pub quiet_parts : scoped world.dialect world unnumbered scope depth (without_locals Top None) tree ≡ only (just None (walk tree))
+  pub quiet_parts : outermost world.dialect world unnumbered scope world.dialect.limits depth (without_locals Top None) tree ≡ only (just None (walk tree))
       → record { steps = placed None (walk tree); faults = []; finds = [] } ≡ parts_of whole
   quiet_parts e = ap (λ (a : Scoped Numbered). parts_of a.outcome) (sym e)

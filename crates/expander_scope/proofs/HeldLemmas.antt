@@ -13,10 +13,12 @@ use Rattle.expander_model.specs.Held.{Numbered, Met, Stands, anchored, anchored_
 use Rattle.expander_model.specs.Meaning.{Layers, Member, plain, defining, definitions_after, member, with_definition, members_after}
 use Rattle.expander_model.specs.OtherPlaces.{LooksAtNoPlace, definition_with}
 use Rattle.expander_model.specs.Pieces.{first_start, relative}
-use Rattle.expander_model.specs.Scoping.{Scoped, expanded, found_in, is_found, without_locals}
+use Rattle.expander_model.specs.Scoping.{Scoped, found_in, is_found, without_locals}
+use Rattle.expander_model.specs.Limits.{expanded}
 use Rattle.expander_model.specs.declared.dialect.Dialect.{Dialect}
 use Rattle.expander_model.specs.declared.scope_rules.Standing.TheVariants.{Top}
-use Rattle.textual_scope.proofs.ChangeLemmas.{is_found-with, scoped-with}
+use Rattle.textual_scope.proofs.BoundedLemmas.{outermost-with}
+use Rattle.textual_scope.proofs.ChangeLemmas.{is_found-with}
 use Rattle.expander_model.proofs.DefinitionPlaceLemmas.{definition_with-same, definition_with-with, definition_of-with}
 use Rattle.expander_model.proofs.PlaceLemmas.{own_stands, piece_and_back, resolved_piece}
 
@@ -123,9 +125,9 @@ pub resolved_expansion : (world : World Definition) → LooksAtNoPlace world →
     ≡ outcome_with (resolve start before) (resolve_definition start before) (expanded (numbered_world world) unnumbered (numbered_scope world.dialect before) depth tree)
 resolved_expansion world law table tells start before h depth tree =
     ap (λ (a : Scoped Definition). a.outcome)
-    (scoped-with (resolve start before) (resolve_definition start before) world.dialect (numbered_world world) world (present_world world law start before) unnumbered (λ d. d)
+    (outermost-with (resolve start before) (resolve_definition start before) world.dialect (numbered_world world) world (present_world world law start before) unnumbered (λ d. d)
     (λ d. ap (definition_with (resolve start before)) (sym (definition_with-same d)))
-    (numbered_scope world.dialect before) (found_in world.dialect (map present_definition before)) (present_scope world.dialect table tells start before h) depth (without_locals Top None) tree)
+    (numbered_scope world.dialect before) (found_in world.dialect (map present_definition before)) (present_scope world.dialect table tells start before h) world.dialect.limits depth (without_locals Top None) tree)
 
 -- a definition of any text, by its piece-relative tree
 pub definition_there : (p : Forest) → Stands p → definition_of p ≡ option_map (definition_with (moved_to (first_place p))) (definition_of (relative p))

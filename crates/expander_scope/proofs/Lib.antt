@@ -13,6 +13,7 @@ mod ScopeLemmas
 mod NameStackLemmas
 mod LocalLemmas
 mod ListLemmas
+mod SpendingLemmas
 mod CallResultLemmas
 mod GoesLemmas
 mod QuietLemmas

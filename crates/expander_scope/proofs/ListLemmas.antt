@@ -22,8 +22,8 @@ use Rattle.expander_model.specs.declared.dialect.Dialect.{Dialect}
 use Rattle.expander_model.specs.declared.scope_rules.ScopeRules.{ScopeRules}
 use Rattle.expander_model.specs.declared.scope_rules.ScopeRules.TheVariants.{TopLevel, Rust}
 use Rattle.expander_model.specs.declared.scope_rules.Standing.{Standing}
-use Rattle.textual_scope.specs.Limits.{Noted, noted, noted_world}
-use Rattle.expander_scope.specs.Expanding.{deeper_at, noted_local, noted_scope, searched}
+use Rattle.expander_model.specs.Limits.{Noted, noted, noted_world}
+use Rattle.expander_scope.specs.Expanding.{Levels, deeper_at, noted_local, noted_scope, searched}
 use Rattle.expander_scope.specs.ListsLeft.{IsAhead, IsOutAhead, Left, Open, list_left, in_list, groups_left, all_left, then_left, let_out}
 use Rattle.textual_scope.specs.FromLeft.{AreOfCall, is_begun, pieces_left, trees_left}
 use Rattle.textual_scope.proofs.LeftLemmas.{call_before, at_piece, at_token, at_group, at_a_call, left_nothing}
@@ -33,18 +33,18 @@ use Rattle.expander_scope.proofs.OutcomeLemmas.{or_false, outcome_eq}
 
 -- ---- one list
 
-module _ (dialect : Dialect) (world : World Numbered) (scope : List ℕ → Option Numbered) (depth : ℕ) where
+module _ (dialect : Dialect) (world : World Numbered) (scope : List ℕ → Option Numbered) (levels : Levels) where
   abbrev S : Search (Noted Numbered)
-  S = searched dialect world scope depth
+  S = searched dialect world scope levels
 
   abbrev deep : Option (Expander (Noted Numbered))
-  deep = deeper_at dialect world scope depth
+  deep = deeper_at dialect world scope levels
 
   abbrev left : Begun → Around → Forest → Scoped (Noted Numbered)
-  left s around f = list_left dialect world scope depth s around f
+  left s around f = list_left dialect world scope levels s around f
 
   -- with n levels left a result is searched so
-  pub scoped_is : (n : ℕ) (around : Around) (f : Forest) → noted dialect world unnumbered scope n around f ≡ searched dialect world scope n around f
+  pub scoped_is : (n : ℕ) (around : Around) (f : Forest) → noted dialect world unnumbered scope n around f ≡ searched dialect world scope (record { depth = n; limits = None }) around f
   scoped_is zero around f = refl
   scoped_is (suc n) around f = refl
 
@@ -140,16 +140,16 @@ module _ (dialect : Dialect) (world : World Numbered) (scope : List ℕ → Opti
 pub then_assoc : (a b : Outcome (Noted Numbered)) (l : Left) → then_left (followed_by a b) l ≡ then_left a (then_left b l)
 then_assoc a b l = λ i. (followed_assoc a b l.0 i, l.1)
 
-module _ (dialect : Dialect) (world : World Numbered) (scope : List ℕ → Option Numbered) (depth : ℕ) (outer : Option Span) where
+module _ (dialect : Dialect) (world : World Numbered) (scope : List ℕ → Option Numbered) (levels : Levels) (outer : Option Span) where
   abbrev pub here_in : Standing → List Definition → Around
   here_in standing locals = record { standing = standing; outer = outer; locals = locals }
 
   -- trees of a list were passed
   pub passed_in : (s t : Begun) (standing : Standing) (locals : List Definition) (f g : Forest) (a : Scoped (Noted Numbered)) (next : List Definition → Left)
-      → list_left dialect world scope depth s (here_in standing locals) f ≡ and_next a (λ here. list_left dialect world scope depth t here g) (here_in standing locals)
-      → in_list dialect world scope depth outer s standing locals f next ≡ then_left a.outcome (in_list dialect world scope depth outer t standing (a.defines ++ locals) g next)
+      → list_left dialect world scope levels s (here_in standing locals) f ≡ and_next a (λ here. list_left dialect world scope levels t here g) (here_in standing locals)
+      → in_list dialect world scope levels outer s standing locals f next ≡ then_left a.outcome (in_list dialect world scope levels outer t standing (a.defines ++ locals) g next)
   passed_in s t standing locals f g a next e =
-      let b : Scoped (Noted Numbered) = list_left dialect world scope depth t (here_in standing (a.defines ++ locals)) g in
+      let b : Scoped (Noted Numbered) = list_left dialect world scope levels t (here_in standing (a.defines ++ locals)) g in
       ap (λ (x : Scoped (Noted Numbered)). then_left x.outcome (next (x.defines ++ locals))) e
       ∙ ap (λ ls. then_left (followed_by a.outcome b.outcome) (next ls)) (append_assoc b.defines a.defines locals)
       ∙ then_assoc a.outcome b.outcome (next (b.defines ++ (a.defines ++ locals)))
@@ -168,35 +168,35 @@ module _ (dialect : Dialect) (world : World Numbered) (scope : List ℕ → Opti
 
   -- a group is entered: its trees are left, and then what is left behind it
   pub entered_in : (t : Begun) (standing inside : Standing) (locals : List Definition) (d : Delimiter) (inner rest : Forest) (gs : List Open)
-      → (let a : Scoped (Noted Numbered) = in_brackets outer d (searched dialect world scope depth (here_in inside locals) inner) in
-      then_left a.outcome (in_list dialect world scope depth outer t standing (a.defines ++ locals) rest (groups_left dialect world scope depth outer gs)))
+      → (let a : Scoped (Noted Numbered) = in_brackets outer d (searched dialect world scope levels (here_in inside locals) inner) in
+      then_left a.outcome (in_list dialect world scope levels outer t standing (a.defines ++ locals) rest (groups_left dialect world scope levels outer gs)))
       ≡ then_left (just outer (opens d.kind d.open_span ∷ []))
-      (in_list dialect world scope depth outer Nothing inside locals inner (groups_left dialect world scope depth outer (opened d rest t standing locals ∷ gs)))
+      (in_list dialect world scope levels outer Nothing inside locals inner (groups_left dialect world scope levels outer (opened d rest t standing locals ∷ gs)))
   entered_in t standing inside locals d inner rest gs =
-      let a : Scoped (Noted Numbered) = searched dialect world scope depth (here_in inside locals) inner in
+      let a : Scoped (Noted Numbered) = searched dialect world scope levels (here_in inside locals) inner in
       let opening : Outcome (Noted Numbered) = just outer (opens d.kind d.open_span ∷ []) in
       let closing : Outcome (Noted Numbered) = just outer (closes d.kind d.close_span ∷ []) in
-      let later : List Definition → Left = λ ls. in_list dialect world scope depth outer t standing ls rest (groups_left dialect world scope depth outer gs) in
+      let later : List Definition → Left = λ ls. in_list dialect world scope levels outer t standing ls rest (groups_left dialect world scope levels outer gs) in
       let whole : Scoped (Noted Numbered) → Left = λ x.
       then_left x.outcome (then_left closing (later (let_out d.kind locals (x.defines ++ locals)))) in
       ap (λ ls. then_left (grouped outer d a.outcome) (later ls)) (let_out_is (is_visible d.kind) a.defines locals)
       ∙ ap (λ o. then_left o (later (let_out d.kind locals (a.defines ++ locals)))) (grouped_is d a.outcome)
       ∙ then_assoc opening (followed_by a.outcome closing) (later (let_out d.kind locals (a.defines ++ locals)))
       ∙ ap (then_left opening) (then_assoc a.outcome closing (later (let_out d.kind locals (a.defines ++ locals))))
-      ∙ ap (λ x. then_left opening (whole x)) (searched_is dialect world scope depth (here_in inside locals) inner)
+      ∙ ap (λ x. then_left opening (whole x)) (searched_is dialect world scope levels (here_in inside locals) inner)
 
   -- at the end of a list its group closes
   pub left_at_end : (s : Begun) (standing : Standing) (locals : List Definition) (gs : List Open)
-      → in_list dialect world scope depth outer s standing locals empty (groups_left dialect world scope depth outer gs) ≡ groups_left dialect world scope depth outer gs locals
+      → in_list dialect world scope levels outer s standing locals empty (groups_left dialect world scope levels outer gs) ≡ groups_left dialect world scope levels outer gs locals
   left_at_end s standing locals gs =
-      ap (λ (x : Scoped (Noted Numbered)). then_left x.outcome (groups_left dialect world scope depth outer gs (x.defines ++ locals)))
-      (left_empty dialect world scope depth s (here_in standing locals))
+      ap (λ (x : Scoped (Noted Numbered)). then_left x.outcome (groups_left dialect world scope levels outer gs (x.defines ++ locals)))
+      (left_empty dialect world scope levels s (here_in standing locals))
 
   -- all that is left at the beginning
   pub left_at_beginning : (standing : Standing) (locals : List Definition) (f : Forest)
-      → (let a : Scoped (Noted Numbered) = searched dialect world scope depth (here_in standing locals) f in (a.outcome, a.defines ++ locals))
-      ≡ all_left dialect world scope depth outer (record { here = f; begun = Nothing; standing = standing; locals = locals; groups = [] })
+      → (let a : Scoped (Noted Numbered) = searched dialect world scope levels (here_in standing locals) f in (a.outcome, a.defines ++ locals))
+      ≡ all_left dialect world scope levels outer (record { here = f; begun = Nothing; standing = standing; locals = locals; groups = []; outside = locals })
   left_at_beginning standing locals f =
-      let a : Scoped (Noted Numbered) = list_left dialect world scope depth Nothing (here_in standing locals) f in
-      ap (λ (x : Scoped (Noted Numbered)). (x.outcome, x.defines ++ locals)) (searched_is dialect world scope depth (here_in standing locals) f)
+      let a : Scoped (Noted Numbered) = list_left dialect world scope levels Nothing (here_in standing locals) f in
+      ap (λ (x : Scoped (Noted Numbered)). (x.outcome, x.defines ++ locals)) (searched_is dialect world scope levels (here_in standing locals) f)
       ∙ ap (λ (o : Outcome (Noted Numbered)). (o, a.defines ++ locals)) (sym (followed_by_nothing a.outcome outer))

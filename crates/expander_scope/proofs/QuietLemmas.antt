@@ -13,14 +13,15 @@ use Rattle.expander_model.specs.Calls.{marked}
 use Rattle.expander_model.specs.Expansion.{World, Outcome, Deeper, PlacedStep, expansion, just, followed_by, search_calls, placed}
 use Rattle.expander_model.specs.Faults.{is_definition_word}
 use Rattle.expander_model.specs.Held.{Numbered, unnumbered}
-use Rattle.expander_model.specs.Scoping.{Around, Scoped, only, scoped, without_locals}
+use Rattle.expander_model.specs.Scoping.{Around, Scoped, only, without_locals}
+use Rattle.expander_model.specs.Limits.{outermost}
 use Rattle.expander_model.specs.declared.dialect.Dialect.{Dialect}
 use Rattle.expander_model.specs.declared.scope_rules.ScopeRules.TheVariants.{Rust}
 use Rattle.expander_model.specs.declared.scope_rules.Standing.TheVariants.{Top}
 use Rattle.expander_model.specs.WalkSteps.{groups_of, GoesOn}
 use Rattle.expander_model.specs.declared.tree_walk.TreeWalk.{TreeWalk}
 use Rattle.textual_scope.specs.Keywords.{HasNoKeyword}
-use Rattle.textual_scope.proofs.AgreementLemmas.{agree_scoped}
+use Rattle.textual_scope.proofs.BoundedLemmas.{agree_outermost}
 use Rattle.textual_scope.proofs.RuleLemmas.{unfound_outermost}
 use Rattle.expander_scope.proofs.OutcomeLemmas.{followed_nil, left, step_left, nothing_left, walk_search}
 use Rattle.expander_scope.proofs.TurnLemmas.{is_search, leaf_search}
@@ -108,11 +109,11 @@ module _ (dialect : Dialect) (world : World Numbered) (depth : ℕ) (f : Forest)
   -- so is it in every scope, if where lists have definitions it has no keyword of one
   pub quiet_scoped : (scope : List ℕ → Option Numbered) → dialect.cfg ≡ None → (dialect.scope ≡ Rust → HasNoKeyword f)
       → ((world : World Numbered) (scope : List ℕ → Option Numbered) (deeper : Deeper Numbered) (outer : Option Span) → search_calls world scope deeper outer (marked f) ≡ just outer (walk f))
-      → scoped dialect world unnumbered scope depth (without_locals Top None) f ≡ only (just None (walk f))
+      → outermost dialect world unnumbered scope dialect.limits depth (without_locals Top None) f ≡ only (just None (walk f))
   quiet_scoped scope whole wordless quiet =
       let around : Around = without_locals Top None in
-      let is : scoped dialect world unnumbered nothing depth around f ≡ only (just None (walk f)) =
-      unfound_outermost world unnumbered None depth f dialect whole wordless ∙ ap only (in_nothing (λ deeper. quiet world nothing deeper None) depth) in
-      agree_scoped dialect world unnumbered nothing scope depth around f
+      let is : outermost dialect world unnumbered nothing dialect.limits depth around f ≡ only (just None (walk f)) =
+      unfound_outermost world unnumbered dialect.limits depth f dialect whole wordless ∙ ap only (in_nothing (λ deeper. quiet world nothing deeper None) depth) in
+      agree_outermost dialect world unnumbered dialect.limits nothing scope depth around f
       (subst (λ (a : Scoped Numbered). All (λ find. scope find.0 ≡ find.1) a.outcome.finds) (sym is) (All-nil (λ find. scope find.0 ≡ find.1)))
       ∙ is

@@ -1,15 +1,17 @@
 -- The search of lists for calls, in a tree with piece-relative spans, and what it adds to an
 -- output.
-use Rattle.std.specs.Prelude.{◌≡◌, ℕ, zero, suc, Bool, false, ◌&&◌, not, List, ◌++◌, map, Option, Some, None, option_map, Result, Ok, Err, if◌then◌else◌}
+use Rattle.std.specs.Prelude.{◌≡◌, ℕ, zero, suc, ◌-◌, Bool, false, ◌&&◌, not, List, [], ◌++◌, map, Option, Some, None, option_map, Result, Ok, Err, if◌then◌else◌}
 use Rattle.tt_data.specs.Forest.{Forest, size}
 use Rattle.tt.specs.Tops.{Top}
 use Rattle.expander_scope.specs.declared.expand.Expanding.{Expanding}
 use Rattle.expander_model.specs.declared.fault.FaultKind.{FaultKind}
 use Rattle.expander_model.specs.declared.fault.FaultKind.TheVariants.{CannotExpand, BrokenDefinition, RecursionLimit}
-use Rattle.expander_model.specs.Expansion.{World, Outcome, PlacedStep}
+use Rattle.expander_model.specs.Changes.{find_with}
+use Rattle.expander_model.specs.Expansion.{World, Outcome, CallSite, PlacedStep, just}
 use Rattle.expander_model.specs.Definitions.{Definition}
-use Rattle.expander_model.specs.Scoping.{Around, Expander, Scoped, Search, defined}
-use Rattle.textual_scope.specs.Limits.{Noted, definition, looked_in, noted, noted_attempt, noted_list, noted_world}
+use Rattle.expander_model.specs.Scoping.{Around, Attempt, Expander, Scoped, Search, defined, only}
+use Rattle.expander_model.specs.Limits.{Noted, Notes, definition, limited, looked_in, noted, noted_attempt, noted_list, noted_world}
+use Rattle.expander_model.specs.declared.limits.Limits.{Limits}
 use Rattle.expander_model.specs.declared.scope_rules.Standing.{Standing}
 use Rattle.expander_scope.specs.LocalTables.{locals_of}
 use Rattle.expander_scope.specs.declared.locals.Locals.{Locals}
@@ -38,17 +40,63 @@ noted_local d = definition (unnumbered d)
 abbrev pub noted_scope : (List ℕ → Option Numbered) → List ℕ → Option (Noted Numbered)
 noted_scope scope key = option_map definition (scope key)
 
+-- how many levels of calls may be expanded, and how much each call in a list may make, or no limit
+pub record Levels : Type 0 where
+  pub depth : ℕ
+  pub limits : Option Limits
+
+-- limits are of outermost calls: in a list that comes of a call there are none
+abbrev pub limits_at : Dialect → Option Span → Option Limits
+limits_at dialect None = dialect.limits
+limits_at dialect (Some at) = None
+
+abbrev pub levels_at : Dialect → ℕ → Option Span → Levels
+levels_at dialect depth outer = record { depth = depth; limits = limits_at dialect outer }
+
+-- those of a result: one less is left
+abbrev pub levels_in : Levels → Levels
+levels_in levels = record { depth = levels.depth - 1; limits = None }
+
+-- look-ups among notes
+abbrev pub among_notes : List (List ℕ × Option Numbered) → Notes Numbered
+among_notes xs = map (find_with definition) xs
+
+-- a result, its look-ups as notes
+abbrev pub as_noted : Scoped Numbered → Scoped (Noted Numbered)
+as_noted a = record {
+  outcome = record {
+    steps = a.outcome.steps;
+    faults = a.outcome.faults;
+    finds = among_notes a.outcome.finds;
+    bursts = a.outcome.bursts;
+  };
+  defines = a.defines;
+}
+
+-- what expands calls, where notes are among definitions
+abbrev pub noted_by : Expander Numbered → Expander (Noted Numbered)
+noted_by expand (definition d) around site =
+    let a : Attempt Numbered = expand d around site in
+    record { replaces = a.replaces; given = as_noted a.given }
+noted_by expand _ around site = record { replaces = false; given = only (just around.outer []) }
+
 module _ (dialect : Dialect) (world : World Numbered) where
   -- how calls are expanded with so many levels left, with notes: not at all with none
-  abbrev pub deeper_at : (List ℕ → Option Numbered) → ℕ → Option (Expander (Noted Numbered))
-  deeper_at scope zero = None
-  deeper_at scope (suc n) =
+  abbrev pub expander_by : (List ℕ → Option Numbered) → Option Limits → ℕ
+      → Option (Expander (Noted Numbered))
+  expander_by scope limits zero = None
+  expander_by scope None (suc n) =
       Some (noted_attempt dialect world unnumbered scope (noted dialect world unnumbered scope n))
+  expander_by scope (Some limits) (suc n) =
+      Some (noted_by (limited dialect world unnumbered scope limits n))
+
+  abbrev pub deeper_at : (List ℕ → Option Numbered) → Levels → Option (Expander (Noted Numbered))
+  deeper_at scope levels = expander_by scope levels.limits levels.depth
 
   -- the search of a list with so many levels left, with notes
-  abbrev pub searched : (List ℕ → Option Numbered) → ℕ → Search (Noted Numbered)
-  searched scope depth around f =
-      noted_list dialect world unnumbered scope (deeper_at scope depth) (suc (size f)) around f
+  abbrev pub searched : (List ℕ → Option Numbered) → Levels → Search (Noted Numbered)
+  searched scope levels around f =
+      noted_list dialect world unnumbered scope (deeper_at scope levels) (suc (size f)) around f
 
 module _ (world : World Numbered) where
   -- the result of a call with so many levels left, or the fault for which the call stays
@@ -68,7 +116,8 @@ world_under grammar s dialect = numbered_world (world grammar s.edition dialect)
 -- the search of a list by this grammar and dialect, in the scope of this table
 abbrev pub searched_under : Grammar → table.Scope → Dialect → ℕ → Search (Noted Numbered)
 searched_under grammar s dialect depth around f =
-    searched dialect (world_under grammar s dialect) (scope_in s) depth around f
+    searched dialect (world_under grammar s dialect) (scope_in s)
+    (levels_at dialect depth around.outer) around f
 
 -- what a definition of a list adds and prints by this grammar and dialect, in the scope of this
 -- table
@@ -82,6 +131,18 @@ defined_under grammar s dialect around d =
 abbrev pub around_in : Standing → Option Span → Locals → Around
 around_in standing outer locals =
     record { standing = standing; outer = outer; locals = locals_of locals }
+
+-- a list in these surroundings by this grammar and dialect, in the scope of this table
+abbrev pub list_under : Grammar → table.Scope → Dialect → ℕ → Standing → Option Span → Locals
+    → Forest → Scoped (Noted Numbered)
+list_under grammar s dialect depth standing outer locals f =
+    searched_under grammar s dialect depth (around_in standing outer locals) f
+
+-- what a call at this place gives, with a level less
+abbrev pub result_under : Grammar → table.Scope → Dialect → ℕ → Standing → Span → Locals → Forest
+    → Scoped (Noted Numbered)
+result_under grammar s dialect depth standing at locals f =
+    list_under grammar s dialect (depth - 1) standing (Some at) locals f
 
 -- the trees of a result, or the fault
 abbrev pub trees_of : Result Top FaultKind → Result Forest FaultKind

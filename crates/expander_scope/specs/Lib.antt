@@ -16,6 +16,7 @@ pub mod LocalEntries
 pub mod LocalTables
 pub mod Leaving
 pub mod ListsLeft
+pub mod Spending
 pub mod Turns
 pub mod DefinitionIds
 pub mod Interning

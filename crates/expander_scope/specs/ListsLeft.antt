@@ -16,9 +16,9 @@ use Rattle.expander_model.specs.Scoping.{Around, Scoped, is_out}
 use Rattle.expander_model.specs.declared.begun.Begun.{Begun}
 use Rattle.expander_model.specs.declared.dialect.Dialect.{Dialect}
 use Rattle.expander_model.specs.declared.scope_rules.Standing.{Standing}
-use Rattle.expander_scope.specs.Expanding.{deeper_at, noted_local, noted_scope, searched}
+use Rattle.expander_scope.specs.Expanding.{Levels, deeper_at, noted_local, noted_scope, searched}
 use Rattle.textual_scope.specs.FromLeft.{left_after}
-use Rattle.textual_scope.specs.Limits.{Noted, noted_world}
+use Rattle.expander_model.specs.Limits.{Noted, noted_world}
 
 -- ---- definitions ahead
 
@@ -54,13 +54,14 @@ pub record Open : Type 0 where
   pub locals : List Definition
 
 -- the trees left in the innermost list, what came of its present piece, where it is, the
--- definitions around, and the open groups, the innermost first
+-- definitions around, the open groups, the innermost first, and the definitions around them all
 pub record Place : Type 0 where
   pub here : Forest
   pub begun : Begun
   pub standing : Standing
   pub locals : List Definition
   pub groups : List Open
+  pub outside : List Definition
 
 -- what a search of lists gives, and the definitions around once it ends
 abbrev pub Left : Type 0
@@ -75,13 +76,13 @@ abbrev pub let_out : DelimiterKind → List Definition → List Definition → L
 let_out k around inside = if is_visible k then around else inside
 
 module _ (dialect : Dialect) (world : World Numbered) (scope : List ℕ → Option Numbered)
-    (depth : ℕ) where
+    (levels : Levels) where
   -- the search of the trees left in a list
   abbrev pub list_left : Begun → Around → Forest → Scoped (Noted Numbered)
   list_left s around f =
       left_after dialect (noted_world world) noted_local (noted_scope scope)
-      (searched dialect world scope depth)
-      (deeper_at dialect world scope depth) s around f
+      (searched dialect world scope levels)
+      (deeper_at dialect world scope levels) s around f
 
   module _ (outer : Option Span) where
     -- that of a list, and then what is left around it

@@ -6,7 +6,7 @@ use Rattle.tt_data.specs.Forest.{Forest}
 use Rattle.expander_scope.specs.Editions.{IsRead}
 use Rattle.expander_model.specs.Expansion.{Outcome}
 use Rattle.expander_model.specs.Held.{Met, Numbered, numbered_scope, numbered_world, place_of, unnumbered}
-use Rattle.expander_model.specs.Scoping.{expanded}
+use Rattle.expander_model.specs.Limits.{expanded}
 use Rattle.expander_model.specs.declared.dialect.Dialect.{Dialect}
 use Rattle.expander_scope.specs.NameTables.{index_of}
 use Rattle.expander_scope.specs.Outcomes.{numbered_of_known}

@@ -28,11 +28,12 @@ use Rattle.expander_model.specs.declared.scope_rules.Standing.TheVariants.{Argum
 use Rattle.expander_model.specs.declared.fault.FaultKind.{FaultKind}
 use Rattle.expander_model.specs.declared.fault.FaultKind.TheVariants.{BrokenDefinition}
 use Rattle.expander_model.specs.declared.tree_walk.Around.{Around}
-use Rattle.textual_scope.specs.Limits.{Noted}
-use Rattle.expander_scope.specs.Expanding.{Adds, searched, world_under}
+use Rattle.expander_model.specs.Limits.{Noted}
+use Rattle.expander_scope.specs.Expanding.{Adds, Levels, levels_at, searched, world_under}
 use Rattle.expander_scope.specs.ListsLeft.{IsAhead, IsOutAhead, Left, Open, Place, all_left, groups_left, in_list, then_left}
 use Rattle.expander_scope.specs.LocalTables.{AreReadIn, locals_of}
 use Rattle.expander_scope.specs.ScopeTable.{scope_in}
+use Rattle.expander_scope.specs.Spending.{Spends}
 use Rattle.expander_scope.specs.declared.expand.Search.{Search}
 use Rattle.expander_scope.specs.declared.list_walk.Level.{Level}
 use Rattle.expander_scope.specs.declared.list_walk.ListWalk.{ListWalk}
@@ -95,11 +96,15 @@ around_of g = record { kind = g.kind; close_span = g.close_span; behind = g.behi
 abbrev pub level_of : Open → Level
 level_of g = record { begun = g.begun; standing = g.standing; locals = length g.locals }
 
--- each group was opened where the definitions outside of it were all those around
-abbrev pub AreNested : List Definition → List Open → Type 0
-AreNested locals [] = Unit {0}
-AreNested locals (g ∷ gs) =
-    ((front : List Definition) × (locals ≡ front ++ g.locals)) × AreNested g.locals gs
+-- these definitions are around, and others before them
+abbrev pub IsAfter : List Definition → List Definition → Type 0
+IsAfter back locals = (front : List Definition) × (locals ≡ front ++ back)
+
+-- each group was opened where the definitions outside of it were all those around, and the first
+-- where these were
+abbrev pub AreNested : List Definition → List Definition → List Open → Type 0
+AreNested outside locals [] = IsAfter outside locals
+AreNested outside locals (g ∷ gs) = IsAfter g.locals locals × AreNested outside g.locals gs
 
 -- a traversal stands at this place, with these definitions around
 pub record IsAt (w : ListWalk) (l : Locals) (p : Place) : Type 0 where
@@ -109,7 +114,15 @@ pub record IsAt (w : ListWalk) (l : Locals) (p : Place) : Type 0 where
   pub locals : locals_of l ≡ p.locals
   pub groups : groups_of w.trees ≡ map around_of p.groups
   pub levels : reverse w.levels.items ≡ map level_of p.groups
-  pub nested : AreNested p.locals p.groups
+  pub nested : AreNested p.outside p.locals p.groups
+
+-- a traversal went on behind a call; `gone` tells that a `;` right behind goes with it
+pub record GoesBehind (gone : Bool) (c : Call) (before after : ListWalk) : Type 0 where
+  pub here : after.trees.here ≡ c.rest
+  pub groups : groups_of after.trees ≡ groups_of before.trees
+  pub begun : after.begun ≡ begun_behind gone before.begun c.from_group
+  pub standing : after.standing ≡ before.standing
+  pub levels : after.levels ≡ before.levels
 
 -- a bound of the turns to come
 abbrev pub steps_in : List Around → ℕ
@@ -140,17 +153,17 @@ IsPassable dialect true p = BeginsWithGroup p.here
 IsPassable dialect false p = IsPlainAhead dialect p × IsNoCall p
 
 module _ (dialect : Dialect) (world : World Numbered) (scope : List ℕ → Option Numbered)
-    (depth : ℕ) (outer : Option Span) where
+    (levels : Levels) (outer : Option Span) where
   -- what is left where the group ahead is that of a call that stays
   abbrev pub argument_left : Place → Forest → Left
   argument_left p (group d inner rest) =
       let a : Scoped (Noted Numbered) =
-      in_brackets outer d (searched dialect world scope depth
+      in_brackets outer d (searched dialect world scope levels
       (record { standing = Argument; outer = outer; locals = p.locals }) inner) in
       then_left a.outcome
-      (in_list dialect world scope depth outer (after_group p.begun d.kind) p.standing
-      (a.defines ++ p.locals) rest (groups_left dialect world scope depth outer p.groups))
-  argument_left p _ = all_left dialect world scope depth outer p
+      (in_list dialect world scope levels outer (after_group p.begun d.kind) p.standing
+      (a.defines ++ p.locals) rest (groups_left dialect world scope levels outer p.groups))
+  argument_left p _ = all_left dialect world scope levels outer p
 
   -- what is left of a call that stays: the trees before its group, its group, and the rest
   abbrev pub kept_left : Forest → Forest → Place → Left
@@ -161,27 +174,30 @@ module _ (dialect : Dialect) (world : World Numbered) (scope : List ℕ → Opti
   -- what is left, where the group ahead may be that of such a call
   abbrev pub left_ahead : Bool → Place → Left
   left_ahead true p = argument_left p p.here
-  left_ahead false p = all_left dialect world scope depth outer p
+  left_ahead false p = all_left dialect world scope levels outer p
 
   -- `Has` tells which events a sink has taken. The search went on from what was left to another
-  -- place, and added what comes between
-  pub record Goes (edition : Edition) {S : Type 0} (Has : S → List PlacedStep → Type 0)
+  -- place, with these definitions around all groups, and added what comes between
+  pub record Goes (outside : List Definition) (edition : Edition) {S : Type 0} (Has : S → List PlacedStep → Type 0)
       (from : Left) (old new : Search S) (before after : ListWalk) : Type 0 where
     pub next : Place
     pub at : IsAt after new.locals next
     pub outcome : Outcome (Noted Numbered)
-    pub is : from ≡ then_left outcome (all_left dialect world scope depth outer next)
+    pub is : from ≡ then_left outcome (all_left dialect world scope levels outer next)
     pub adds : Adds Has old.out new.out outcome
+    pub spends : Spends old.left new.left outcome.finds
     pub read : AreReadIn edition old.locals → AreReadIn edition new.locals
+    pub outside : next.outside ≡ outside
     pub less : turns_left after < turns_left before
 
 -- the same by this grammar and dialect, in the scope of this table
 abbrev pub left_under : Grammar → table.Scope → Dialect → ℕ → Option Span → Place → Left
 left_under grammar s dialect depth outer p =
-    all_left dialect (world_under grammar s dialect) (scope_in s) depth outer p
+    all_left dialect (world_under grammar s dialect) (scope_in s) (levels_at dialect depth outer)
+    outer p
 
 abbrev pub GoesUnder : Grammar → table.Scope → Dialect → ℕ → Option Span → {S : Type 0}
     → (S → List PlacedStep → Type 0) → Place → Search S → Search S → ListWalk → ListWalk → Type 0
 GoesUnder grammar s dialect depth outer Has p old new before after =
-    Goes dialect (world_under grammar s dialect) (scope_in s) depth outer s.edition Has
-    (left_under grammar s dialect depth outer p) old new before after
+    Goes dialect (world_under grammar s dialect) (scope_in s) (levels_at dialect depth outer) outer
+    p.outside s.edition Has (left_under grammar s dialect depth outer p) old new before after

@@ -1,6 +1,6 @@
 //! Expands a tree with piece-relative spans: expands its calls from left to right, and searches
 //! each result for further calls.
-ghost use Rattle.std.specs.Prelude.{◌≡◌, ◌-◌, ◌<◌, ℕ, ◌++◌, ◌∷◌, [], List, map, true, false, IfOk, IfNone, IfSome, IsOkUnless, OnOk, Option, Some, None, Err, is_some, option_map, if◌then◌else◌};
+ghost use Rattle.std.specs.Prelude.{◌≡◌, ◌-◌, ◌<◌, ℕ, ◌++◌, ◌∷◌, [], List, length, map, take, true, false, IfOk, IfNone, IfSome, IsOkUnless, OnOk, Option, Some, None, Err, is_some, option_map, if◌then◌else◌};
 ghost use Rattle.mbe.specs.Bursts as made_by;
 ghost use Rattle.mbe.specs.Macros.{rules_of};
 ghost use Rattle.mbe.specs.Markers.{is_name};
@@ -13,15 +13,17 @@ ghost use Rattle.tt_data.specs.fault.TtFault.TheVariants.{Memory};
 ghost use Rattle.expander_model.specs.Calls.{marked};
 ghost use Rattle.expander_model.specs.CallSteps.{call_at};
 ghost use Rattle.expander_model.specs.Definitions.{Definition, definition_of};
-ghost use Rattle.expander_model.specs.Expansion.{Deeper, World, just, placed, search_calls};
+ghost use Rattle.expander_model.specs.Expansion.{Deeper, World, faulted, just, placed, search_calls};
 ghost use Rattle.expander_model.specs.Held.{Numbered, numbered_world, unnumbered};
 ghost use Rattle.expander_model.specs.Scoping.{is_left_out};
 ghost use Rattle.expander_model.specs.World.{fit_of, made, world};
 ghost use Rattle.textual_scope.specs.Keywords.{HasNoKeyword};
 ghost use Rattle.expander_scope.specs.Editions.{IsRead};
-ghost use Rattle.expander_scope.specs.Expanding.{Adds, Expands, answer, around_in, defined_under};
-ghost use Rattle.expander_scope.specs.Expanding.{makes_too_many, searched_under, trees_of};
-ghost use Rattle.expander_scope.specs.Expanding.{world_under};
+ghost use Rattle.expander_scope.specs.Expanding.{Adds, Expands, Levels, answer, defined_under};
+ghost use Rattle.expander_scope.specs.Expanding.{limits_at, list_under, makes_too_many};
+ghost use Rattle.expander_scope.specs.Expanding.{result_under, trees_of, world_under};
+ghost use Rattle.expander_scope.specs.Spending.{BurstsFirst, BurstsIn, Searched, Spends, Stops};
+ghost use Rattle.expander_scope.specs.Spending.{TakesBack, left_behind, notes_with, passing, sized};
 ghost use Rattle.expander_model.specs.declared.scope_rules.Standing.TheVariants.{Argument};
 ghost use Rattle.tt_data.specs.Lent.{leaf_lent};
 ghost use Rattle.expander_model.specs.Scoping.{in_group};
@@ -30,7 +32,7 @@ ghost use Rattle.expander_scope.specs.LocalTables.{AreReadIn, locals_of};
 ghost use Rattle.expander_scope.specs.Outcomes.{find_of, numbered_of_known, parts_for, parts_of};
 ghost use Rattle.expander_scope.specs.Sinks.{TakesMore};
 ghost use Rattle.expander_scope.specs.ScopeTable.{AreRead, expanded_under, scope_in};
-ghost use Rattle.expander_scope.specs.Turns.{BeginsWithGroup, Goes, GoesUnder, IsAt, IsPassable, IsPlainAhead, begun_behind, broken_at, is_bare, kept_left, left_ahead, left_under, local_at, lookups_of, resolved, shown_of};
+ghost use Rattle.expander_scope.specs.Turns.{BeginsWithGroup, Goes, GoesBehind, GoesUnder, is_alone_at, IsAt, IsPassable, IsPlainAhead, begun_behind, broken_at, is_bare, kept_left, left_ahead, left_under, local_at, lookups_of, resolved, shown_of};
 
 use crate::event_sink::{EventSink, take_walk};
 use crate::list_walk::{ListWalk, definition_ahead, in_group, is_alone_at, out_ahead};
@@ -44,6 +46,7 @@ use expander_model::call::{Beginning, Call, beginning_of, call_at, call_behind_c
 use expander_model::definition::definition_of;
 use expander_model::dialect::Dialect;
 use expander_model::fault::{FaultKind, is_definition_word};
+use expander_model::limits::Limits;
 use expander_model::scope_rules::{ScopeRules, Standing};
 use expander_model::tree_walk::TreeWalk;
 use mbe::{DeclarativeMacro, FragmentGrammar, MacroCallStyle};
@@ -216,6 +219,57 @@ fn answer<G: FragmentGrammar>(
 struct Search<S> {
     out: Expanding<S>,
     locals: Locals,
+    // What is left of the limits of the outermost call. None outside of such a call, and if it has
+    // none.
+    left: Option<Limits>,
+}
+
+// Counts a call that gives so many tokens. `false` if a limit is passed.
+fn charge(left: &mut Option<Limits>, tokens: usize) -> bool
+    ensures counted { result ≡ true → Spends left.old left.new (sized tokens) }
+    ensures passed { result ≡ false → left_behind left.old (sized tokens) ≡ None }
+{
+    let Some(limits) = *left else {
+        return true;
+    };
+    if limits.calls == 0 || limits.tokens < tokens {
+        return false;
+    }
+    *left = Some(Limits {
+        calls: limits.calls - 1,
+        tokens: limits.tokens - tokens,
+    });
+    true
+}
+
+// The limits of a call in a list of a text. A call in what comes of another has none of its own.
+fn limits_at(dialect: &Dialect, outer: Option<Span>) -> Option<Limits>
+    ensures { result ≡ limits_at dialect.now outer }
+{
+    match outer {
+        None => dialect.limits,
+        Some(_) => None,
+    }
+}
+
+// Takes back what was added since there were so many faults and definitions around, and the sink
+// had this mark. The look-ups stay.
+fn take_back<S: EventSink>(search: &mut Search<S>, mark: usize, told: usize, around: usize)
+    ensures takes { (before more : List PlacedStep) → S.marks mark before →
+        S.has_taken search.old.out.output (before ++ more) →
+        S.has_taken search.new.out.output before }
+    ensures faults { search.new.out.faults.items ≡ take told search.old.out.faults.items }
+    ensures finds { search.new.out.finds ≡ search.old.out.finds }
+    ensures locals { (front back : List Definition) →
+        locals_of search.old.locals ≡ front ++ back → length back ≡ around →
+        locals_of search.new.locals ≡ back }
+    ensures read { (edition : Edition) → AreReadIn edition search.old.locals →
+        AreReadIn edition search.new.locals }
+    ensures left { search.new.left ≡ search.old.left }
+{
+    search.out.output.take_back(mark);
+    search.out.faults.truncate(told);
+    search.locals.cut_back(around);
 }
 
 // Whether a call that the trees begin with is a name alone, without a root before it.
@@ -289,6 +343,7 @@ fn resolve<G, S>(
     ensures known { IfOk result (λ given.
         IfSome given (λ k. IsRead env.now.scope.now.edition k.value)) }
     ensures locals { search.new.locals ≡ search.old.locals }
+    ensures left { search.new.left ≡ search.old.left }
     ensures read { AreReadIn env.now.scope.now.edition search.new.locals }
     ensures output { search.new.out.output ≡ search.old.out.output }
     ensures faults { search.new.out.faults ≡ search.old.out.faults }
@@ -350,11 +405,12 @@ fn pass_event<S: EventSink>(
     ensures end { IfOk result (λ more. more ≡ false → (search.new ≡ search.old) × ((p : Place) →
         IsAt walk.old search.old.locals p → (p.here ≡ empty) × (p.groups ≡ []))) }
     ensures turn { IfOk result (λ more. more ≡ true → (dialect : Dialect)
-        (world : World Numbered) (scope : List ℕ → Option Numbered) (depth : ℕ)
+        (world : World Numbered) (scope : List ℕ → Option Numbered) (levels : Levels)
         (edition : Edition) (p : Place) →
         IsAt walk.old search.old.locals p → IsPassable dialect is_argument p →
-        Goes dialect world scope depth outer edition S.has_taken
-        (left_ahead dialect world scope depth outer is_argument p)
+        Goes dialect world scope levels outer p.outside edition
+        S.has_taken
+        (left_ahead dialect world scope levels outer is_argument p)
         search.old search.new walk.old walk.new) }
 {
     let Some(step) = walk.trees.next()? else {
@@ -394,12 +450,13 @@ fn keep_call<'a, S: EventSink>(
 ) -> Result<(), AllocError>
     requires { (passed : Forest) × (walk.old.trees.here ≡ joined passed from_group) }
     ensures turn { OnOk result ((dialect : Dialect) (world : World Numbered)
-        (scope : List ℕ → Option Numbered) (depth : ℕ) (edition : Edition) (p : Place)
+        (scope : List ℕ → Option Numbered) (levels : Levels) (edition : Edition) (p : Place)
         (before : Forest) →
         IsAt walk.old search.old.locals p → p.here ≡ joined before from_group.entry →
         BeginsWithGroup from_group.entry →
-        Goes dialect world scope depth outer edition S.has_taken
-        (kept_left dialect world scope depth outer before from_group.entry p)
+        Goes dialect world scope levels outer p.outside edition
+        S.has_taken
+        (kept_left dialect world scope levels outer before from_group.entry p)
         search.old search.new walk.old walk.new) }
 {
     keep(
@@ -461,6 +518,7 @@ fn define<G: FragmentGrammar, S: EventSink>(
         (record { standing = standing; outer = outer; locals = locals }) d).outcome) }
     ensures locals { OnOk result ((d : Definition) → definition_of piece.now ≡ Some d →
         locals_of search.new.locals ≡ d ∷ locals_of search.old.locals) }
+    ensures left { search.new.left ≡ search.old.left }
     ensures read { OnOk result (AreReadIn env.now.scope.now.edition search.old.locals →
         AreReadIn env.now.scope.now.edition search.new.locals) }
     ensures memory { IsOkUnless result Memory }
@@ -512,11 +570,135 @@ fn begun_behind(gone: bool, begun: Begun, from_group: &TtIter<'_>) -> Begun
     }
 }
 
+// Goes on behind a call that was replaced.
+fn pass_call<'a>(dialect: &Dialect, walk: &mut ListWalk<'a>, call: Call<'a>)
+    ensures { GoesBehind
+        (is_alone_at dialect.now walk.old.begun walk.old.standing call.from_group)
+        call walk.old walk.new }
+{
+    let alone = is_alone_at(dialect, walk.begun, walk.standing, &call.from_group);
+    walk.begun = begun_behind(alone, walk.begun, &call.from_group);
+    walk.trees.go_on(call.rest);
+}
+
+// Emits a call that stays for a fault, and passes it.
+fn stay<'a, S: EventSink>(
+    alloc: Global,
+    outer: Option<Span>,
+    search: &mut Search<S>,
+    walk: &mut ListWalk<'a>,
+    call: Call<'a>,
+    told: (FaultKind, Span),
+) -> Result<(), AllocError>
+    requires call { call_at walk.old.trees.here ≡ Some call }
+    ensures adds { (passed : Forest) → walk.old.trees.here ≡ joined passed call.rest →
+        OnOk result (Adds S.has_taken search.old.out search.new.out
+        (faulted told.0 told.1 (just outer (walk passed)))) }
+    ensures behind { OnOk result (GoesBehind false call walk.old walk.new) }
+    ensures locals { search.new.locals ≡ search.old.locals }
+    ensures left { search.new.left ≡ search.old.left }
+{
+    walk.begun = begun_behind(false, walk.begun, &call.from_group);
+    push_told(&mut search.out.faults, told.0, told.1)?;
+    keep(alloc, outer, &mut search.out, &mut walk.trees.here, call.rest)
+}
+
+// Searches what a call gives, which counts. `false` if a limit is passed.
+#[cycle(searching)]
+fn search_result<G: FragmentGrammar, S: EventSink>(
+    env: &Environment<'_, G>,
+    at: Span,
+    search: &mut Search<S>,
+    standing: Standing,
+    given: &TopSubtree,
+) -> Result<bool, TtFault>
+    requires deep { 0 < env.now.depth }
+    requires read { AreRead env.now.scope.now }
+    requires locals { AreReadIn env.now.scope.now.edition search.old.locals }
+    ensures done { let a = result_under (G.answer env.now.grammar.now) env.now.scope.now
+        env.now.dialect.now env.now.depth standing at search.old.locals given.now.inner in
+        IfOk result (λ done. done ≡ true → Searched S.has_taken search.old search.new a
+        (notes_with given.now.inner a.outcome.finds)) }
+    ensures stops { let a = result_under (G.answer env.now.grammar.now) env.now.scope.now
+        env.now.dialect.now env.now.depth standing at search.old.locals given.now.inner in
+        IfOk result (λ done. done ≡ false → Stops S.has_taken search.old search.new
+        (notes_with given.now.inner a.outcome.finds)) }
+    ensures read { OnOk result (AreReadIn env.now.scope.now.edition search.new.locals) }
+    ensures tokens { let a = result_under (G.answer env.now.grammar.now) env.now.scope.now
+        env.now.dialect.now env.now.depth standing at search.old.locals given.now.inner in
+        result ≡ Err TtFault.Tokens → (a.outcome.bursts ≡ true)
+        × BurstsFirst search.old.left (notes_with given.now.inner a.outcome.finds) }
+{
+    let trees = given.token_trees();
+    if !charge(&mut search.left, trees.len()) {
+        return Ok(false);
+    }
+    search_list(&env.deeper(), Some(at), search, standing, &trees.iter())
+}
+
+// Searches what a call gives: outside of other calls within the limits of the dialect, or else
+// within what is left of those of the outermost call. `false` if a limit is passed. Then what was
+// added for an outermost call is taken back, but for its look-ups.
+#[cycle(searching)]
+fn replace<G: FragmentGrammar, S: EventSink>(
+    env: &Environment<'_, G>,
+    outer: Option<Span>,
+    at: Span,
+    search: &mut Search<S>,
+    standing: Standing,
+    given: &TopSubtree,
+) -> Result<bool, TtFault>
+    requires deep { 0 < env.now.depth }
+    requires read { AreRead env.now.scope.now }
+    requires locals { AreReadIn env.now.scope.now.edition search.old.locals }
+    requires left { outer ≡ None → search.old.left ≡ None }
+    ensures done { let a = result_under (G.answer env.now.grammar.now) env.now.scope.now
+        env.now.dialect.now env.now.depth standing at search.old.locals given.now.inner in
+        IfOk result (λ done. done ≡ true → Searched S.has_taken search.old search.new a
+        (notes_with given.now.inner a.outcome.finds)) }
+    ensures fits { let a = result_under (G.answer env.now.grammar.now) env.now.scope.now
+        env.now.dialect.now env.now.depth standing at search.old.locals given.now.inner in
+        IfOk result (λ done. done ≡ true → passing (limits_at env.now.dialect.now outer)
+        (notes_with given.now.inner a.outcome.finds) ≡ None) }
+    ensures stops { let a = result_under (G.answer env.now.grammar.now) env.now.scope.now
+        env.now.dialect.now env.now.depth standing at search.old.locals given.now.inner in
+        IfOk result (λ done. done ≡ false → is_some outer ≡ true →
+        Stops S.has_taken search.old search.new
+        (notes_with given.now.inner a.outcome.finds)) }
+    ensures back { let a = result_under (G.answer env.now.grammar.now) env.now.scope.now
+        env.now.dialect.now env.now.depth standing at search.old.locals given.now.inner in
+        IfOk result (λ done. done ≡ false → is_some outer ≡ false →
+        TakesBack S.has_taken (limits_at env.now.dialect.now outer) search.old search.new
+        (notes_with given.now.inner a.outcome.finds)) }
+    ensures read { OnOk result (AreReadIn env.now.scope.now.edition search.new.locals) }
+    ensures tokens { let a = result_under (G.answer env.now.grammar.now) env.now.scope.now
+        env.now.dialect.now env.now.depth standing at search.old.locals given.now.inner in
+        result ≡ Err TtFault.Tokens → (a.outcome.bursts ≡ true)
+        × (BurstsFirst search.old.left (notes_with given.now.inner a.outcome.finds)
+        × BurstsFirst (limits_at env.now.dialect.now outer)
+        (notes_with given.now.inner a.outcome.finds)) }
+{
+    let limits = limits_at(env.dialect, outer);
+    if limits.is_none() {
+        return search_result(env, at, search, standing, given);
+    }
+    let mark = search.out.output.mark();
+    let told = search.out.faults.len();
+    let around = search.locals.len();
+    search.left = limits;
+    let done = search_result(env, at, search, standing, given)?;
+    search.left = None;
+    if !done {
+        take_back(search, mark, told, around);
+    }
+    Ok(done)
+}
+
 // Expands the call at the head of the trees, and passes it. Its result is searched with one level
 // less.
 //
 // A call with a fault is emitted as it is. If the name resolves to nothing, the call is emitted
-// with its group searched.
+// with its group searched. `false` if a limit of the outermost call is passed.
 #[cycle(searching)]
 fn expand_call<'a, G: FragmentGrammar, S: EventSink>(
     env: &Environment<'_, G>,
@@ -524,44 +706,52 @@ fn expand_call<'a, G: FragmentGrammar, S: EventSink>(
     search: &mut Search<S>,
     walk: &mut ListWalk<'a>,
     call: Call<'a>,
-) -> Result<(), TtFault>
+) -> Result<bool, TtFault>
     requires call { call_at walk.old.trees.here ≡ Some call }
     requires read { AreRead env.now.scope.now }
     requires locals { AreReadIn env.now.scope.now.edition search.old.locals }
-    ensures turn { OnOk result ((p : Place) → IsAt walk.old search.old.locals p →
-        IsPlainAhead env.now.dialect.now p →
+    requires left { outer ≡ None → search.old.left ≡ None }
+    ensures turn { IfOk result (λ more. more ≡ true → (p : Place) →
+        IsAt walk.old search.old.locals p → IsPlainAhead env.now.dialect.now p →
         GoesUnder (G.answer env.now.grammar.now) env.now.scope.now env.now.dialect.now
         env.now.depth outer S.has_taken p search.old search.new walk.old walk.new) }
+    ensures stops { IfOk result (λ more. more ≡ false → (p : Place) →
+        IsAt walk.old search.old.locals p → IsPlainAhead env.now.dialect.now p →
+        Stops S.has_taken search.old search.new
+        (left_under (G.answer env.now.grammar.now) env.now.scope.now env.now.dialect.now
+        env.now.depth outer p).0.finds) }
+    ensures read { OnOk result (AreReadIn env.now.scope.now.edition search.new.locals) }
     ensures tokens { result ≡ Err TtFault.Tokens → (p : Place) →
         IsAt walk.old search.old.locals p → IsPlainAhead env.now.dialect.now p →
+        BurstsIn search.old.left
         (left_under (G.answer env.now.grammar.now) env.now.scope.now env.now.dialect.now
-        env.now.depth outer p).0.bursts ≡ true }
+        env.now.depth outer p).0 }
 {
     let Some(known) = resolve(env, search, &walk.trees.here, &call)? else {
         keep_call(env.alloc, outer, search, walk, call.from_group)?;
-        return Ok(());
+        return Ok(true);
     };
     let at = outer.unwrap_or(call.name.span);
     match answer(env, known.as_ref(), &call.argument, at)? {
-        Ok(result) => {
-            let alone = is_alone_at(env.dialect, walk.begun, walk.standing, &call.from_group);
-            walk.begun = begun_behind(alone, walk.begun, &call.from_group);
-            walk.trees.go_on(call.rest);
-            let inside = result.token_trees().iter();
-            search_list(&env.deeper(), Some(at), search, walk.standing, &inside)
+        Ok(given) => {
+            if replace(env, outer, at, search, walk.standing, &given)? {
+                pass_call(env.dialect, walk, call);
+                return Ok(true);
+            }
+            if outer.is_some() {
+                return Ok(false);
+            }
+            let told = (FaultKind::TooLarge, at);
+            stay(env.alloc, outer, search, walk, call, told)?;
         }
-        Err(kind) => {
-            walk.begun = begun_behind(false, walk.begun, &call.from_group);
-            push_told(&mut search.out.faults, kind, at)?;
-            let here = &mut walk.trees.here;
-            keep(env.alloc, outer, &mut search.out, here, call.rest)?;
-            Ok(())
-        }
+        Err(kind) => stay(env.alloc, outer, search, walk, call, (kind, at))?,
     }
+    Ok(true)
 }
 
 // Searches a list for calls and definitions, and the lists in its groups. Each event gets `outer`,
-// the span of the name of the outermost call that it comes from, if any.
+// the span of the name of the outermost call that it comes from, if any. `false` if a limit of
+// that call is passed.
 #[cycle(searching)]
 fn search_list<G: FragmentGrammar, S: EventSink>(
     env: &Environment<'_, G>,
@@ -569,21 +759,22 @@ fn search_list<G: FragmentGrammar, S: EventSink>(
     search: &mut Search<S>,
     standing: Standing,
     trees: &TtIter<'_>,
-) -> Result<(), TtFault>
+) -> Result<bool, TtFault>
     requires read { AreRead env.now.scope.now }
     requires locals { AreReadIn env.now.scope.now.edition search.old.locals }
-    ensures adds { OnOk result (Adds S.has_taken search.old.out search.new.out
-        (searched_under (G.answer env.now.grammar.now) env.now.scope.now env.now.dialect.now
-        env.now.depth (around_in standing outer search.old.locals) trees.now).outcome) }
-    ensures locals { OnOk result (locals_of search.new.locals
-        ≡ (searched_under (G.answer env.now.grammar.now) env.now.scope.now env.now.dialect.now
-        env.now.depth (around_in standing outer search.old.locals) trees.now).defines
-        ++ locals_of search.old.locals) }
+    requires left { outer ≡ None → search.old.left ≡ None }
+    ensures done { let a = list_under (G.answer env.now.grammar.now) env.now.scope.now
+        env.now.dialect.now env.now.depth standing outer search.old.locals trees.now in
+        IfOk result (λ done. done ≡ true →
+        Searched S.has_taken search.old search.new a a.outcome.finds) }
+    ensures stops { let a = list_under (G.answer env.now.grammar.now) env.now.scope.now
+        env.now.dialect.now env.now.depth standing outer search.old.locals trees.now in
+        IfOk result (λ done. done ≡ false →
+        Stops S.has_taken search.old search.new a.outcome.finds) }
     ensures read { OnOk result (AreReadIn env.now.scope.now.edition search.new.locals) }
-    ensures tokens { result ≡ Err TtFault.Tokens →
-        (searched_under (G.answer env.now.grammar.now) env.now.scope.now env.now.dialect.now
-        env.now.depth (around_in standing outer search.old.locals) trees.now).outcome.bursts
-        ≡ true }
+    ensures tokens { let a = list_under (G.answer env.now.grammar.now) env.now.scope.now
+        env.now.dialect.now env.now.depth standing outer search.old.locals trees.now in
+        result ≡ Err TtFault.Tokens → BurstsIn search.old.left a.outcome }
 {
     let mut walk = ListWalk::new(env.alloc, trees, standing);
     'turns: loop {
@@ -597,7 +788,11 @@ fn search_list<G: FragmentGrammar, S: EventSink>(
             continue 'turns;
         }
         match beginning_of(&walk.trees.here) {
-            Beginning::Call(call) => expand_call(env, outer, search, &mut walk, call)?,
+            Beginning::Call(call) => {
+                if !expand_call(env, outer, search, &mut walk, call)? {
+                    return Ok(false);
+                }
+            }
             Beginning::BehindColons(call) => {
                 keep_call(env.alloc, outer, search, &mut walk, call.from_group)?;
             }
@@ -608,7 +803,7 @@ fn search_list<G: FragmentGrammar, S: EventSink>(
             }
             Beginning::Other => {
                 if !pass_event(outer, search, &mut walk, false)? {
-                    return Ok(());
+                    return Ok(true);
                 }
             }
         }
@@ -685,8 +880,11 @@ pub fn expand_into<G: FragmentGrammar, S: EventSink>(
             finds: Vec::new(env.alloc),
         },
         locals: Locals::new(env.alloc),
+        left: None,
     };
-    search_list(env, None, &mut search, Standing::Top, &tree.iter())?;
+    if !search_list(env, None, &mut search, Standing::Top, &tree.iter())? {
+        unreachable!()
+    }
     Ok(search.out)
 }
 

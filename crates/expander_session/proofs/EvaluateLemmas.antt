@@ -14,7 +14,7 @@ use Rattle.expander_model.specs.EqualTrees.{same_forest, same_top}
 use Rattle.expander_model.specs.Definitions.{Definition}
 use Rattle.expander_model.specs.Expansion.{Outcome, World}
 use Rattle.expander_model.specs.Held.{IsMet, Met, Numbered, numbered_scope, numbered_world, unnumbered}
-use Rattle.expander_model.specs.Scoping.{expanded}
+use Rattle.expander_model.specs.Limits.{expanded}
 use Rattle.expander_session.specs.Caches.{IsRight, piece_of}
 use Rattle.expander_scope.specs.DefinitionIds.{AreNumbers, numbered_by}
 use Rattle.expander_session.specs.CachedOutputs.{Holds}

@@ -6,12 +6,12 @@ use Rattle.std.proofs.lemmas.List.Elements.{All-cons, All-head, All-nil, All-tai
 use Rattle.tt_data.specs.Forest.{Forest}
 use Rattle.expander_model.specs.Definitions.{Definition}
 use Rattle.expander_model.specs.Expansion.{World}
-use Rattle.expander_model.specs.Scoping.{Scoped, expanded, without_locals}
+use Rattle.expander_model.specs.Scoping.{Scoped, without_locals}
+use Rattle.expander_model.specs.Limits.{expanded}
 use Rattle.expander_model.specs.declared.scope_rules.Standing.TheVariants.{Top}
 use Rattle.expander_session.specs.Agreement.{FoundIn, scope_of}
 use Rattle.expander_session.proofs.FindsLemmas.{made_finds}
-use Rattle.textual_scope.proofs.AgreementLemmas.{agree_scoped}
-use Rattle.textual_scope.proofs.FindsLemmas.{found_scoped}
+use Rattle.textual_scope.proofs.BoundedLemmas.{agree_outermost, found_outermost}
 
 -- a look-up is what the scope finds
 abbrev IsFound : {D : Type 0} → (List ℕ → Option D) → (List ℕ × Option D) → Type 0
@@ -31,14 +31,14 @@ module _ {D : Type 0} (world : World D) (local : Definition → D) where
       → expanded world local others depth tree ≡ expanded world local scope depth tree
   same_expanded scope others depth tree h =
       ap (λ (a : Scoped D). a.outcome)
-      (agree_scoped world.dialect world local scope others depth (without_locals Top None) tree
+      (agree_outermost world.dialect world local world.dialect.limits scope others depth (without_locals Top None) tree
       (each_found others (expanded world local scope depth tree).finds h))
 
   -- each name that was looked up is found so in the scope of the expansion
   pub found_expanded : (scope : List ℕ → Option D) (depth : ℕ) (tree : Forest) → FoundIn scope (expanded world local scope depth tree).finds
   found_expanded scope depth tree =
       all_found scope (expanded world local scope depth tree).finds
-      (found_scoped world.dialect world local scope depth (without_locals Top None) tree)
+      (found_outermost world.dialect world local world.dialect.limits scope depth (without_locals Top None) tree)
 
   -- an expansion is that under the scope made of its finds: what a held piece keeps of a scope
   pub expanded_by_finds : (scope : List ℕ → Option D) (depth : ℕ) (tree : Forest)

@@ -18,7 +18,7 @@ use Rattle.bridge.specs.Spelling.{spelling}
 use Rattle.expander_model.specs.Changes.{placed_with}
 use Rattle.expander_model.specs.Expansion.{PlacedStep}
 use Rattle.expander_model.specs.Faults.{place, fault_at, is_definition_word, unspellable}
-use Rattle.expander_session.specs.CachedOutputs.{HasPrinted, EmitsCached, PutsChunk}
+use Rattle.expander_session.specs.CachedOutputs.{HasPrinted, HasTaken, EmitsCached, PutsChunk}
 use Rattle.expander_scope.specs.Sinks.{TakesMore}
 use Rattle.expander_session.specs.Emitting.{PutsOut, faults_at, numbers_left_out, told_from, word_places, words_told}
 use Rattle.expander_session.specs.AbsoluteSpans.{base_at, resolved_by}
@@ -51,10 +51,10 @@ not_both false p q = cc
 not_both true p q = cc
 
 -- one step is printed
-pub prints_step : (old new : OwnPrint) (s : PlacedStep) → new.is_empty ≡ false
+pub prints_step : (old new : OwnPrint) (s : PlacedStep) → new.is_empty ≡ false → new.is_whole ≡ old.is_whole
     → ((steps : List Step) → HasPut old.printer steps → HasPut new.printer (steps ++ s.step ∷ []))
-    → new.words.items ≡ old.words.items ++ word_places (s ∷ []) → TakesMore HasPrinted old new (s ∷ [])
-prints_step old new s some puts words before has = record {
+    → new.words.items ≡ old.words.items ++ word_places (s ∷ []) → TakesMore HasTaken old new (s ∷ [])
+prints_step old new s some same puts words before taken whole = let has : HasPrinted old before = taken (sym same ∙ whole) in record {
   printer = subst (HasPut new.printer) (sym (map-append (λ (s : PlacedStep). s.step) before (s ∷ []))) (puts (steps_of before) has.printer);
   words = words ∙ ap (λ l. l ++ word_places (s ∷ [])) has.words ∙ sym (word_places-append before (s ∷ []));
   none = λ e. not_both new.is_empty some e;

@@ -32,7 +32,7 @@ use Rattle.expander_model.specs.OtherPlaces.{LooksAtNoPlace}
 use Rattle.expander_session.specs.Emitting.{HasOutput, PutsOut}
 use Rattle.expander_scope.specs.Outcomes.{numbered_of_known, parts_of}
 use Rattle.expander_model.specs.Pieces.{first_start, relative}
-use Rattle.expander_model.specs.Scoping.{expanded}
+use Rattle.expander_model.specs.Limits.{expanded}
 use Rattle.expander_session.specs.AbsoluteSpans.{resolved_faults, resolved_steps, told_of}
 use Rattle.expander_session.specs.Memos.{finds_of, tree_of}
 use Rattle.expander_session.specs.Reuse.{HeldPiece, IsHeld, matches}

@@ -22,7 +22,8 @@ use Rattle.expander_scope.specs.DefinitionIds.{number_by, numbered_by}
 use Rattle.expander_scope.specs.NewNumbers.{needed}
 use Rattle.expander_model.specs.OtherPlaces.{LooksAtNoPlace, definition_with}
 use Rattle.expander_model.specs.Pieces.{first_start, relative}
-use Rattle.expander_model.specs.Scoping.{expanded, found_in}
+use Rattle.expander_model.specs.Scoping.{found_in}
+use Rattle.expander_model.specs.Limits.{expanded}
 use Rattle.expander_session.specs.Evaluating.{CanDefine, Evaluates, Grows, HasImported, HasTaken, IsEvaluated, MakesTooMany, NeedsMore}
 use Rattle.expander_session.specs.EvaluatedTexts.{kept_in}
 use Rattle.expander_session.specs.TooMany.{bursts}

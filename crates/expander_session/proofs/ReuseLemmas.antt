@@ -13,7 +13,7 @@ use Rattle.expander_model.specs.EqualTrees.{same_forest}
 use Rattle.expander_model.specs.Expansion.{World, Outcome}
 use Rattle.expander_model.specs.Definitions.{Definition}
 use Rattle.expander_model.specs.Held.{IsMet, IsNumbered, Met, Numbered, Tells, nearest_met, numbered_of, numbered_scope, numbered_world, unnumbered}
-use Rattle.expander_model.specs.Scoping.{expanded}
+use Rattle.expander_model.specs.Limits.{expanded}
 use Rattle.expander_session.specs.Reuse.{FoundIs, HeldPiece, IsHeld, agrees, looked_at, looked_held, matches, reused_outcome, same_number}
 use Rattle.small_grammar.specs.Text.{same_text}
 use Rattle.expander_session.proofs.ExpandedLemmas.{expanded_by_finds, found_expanded, same_expanded}

@@ -26,6 +26,10 @@ pub record HasPrinted (own : OwnPrint) (steps : List PlacedStep) : Type 0 where
   pub words : own.words.items ≡ word_places steps
   pub none : own.is_empty ≡ true → steps ≡ []
 
+-- the same, unless some were taken back
+abbrev pub HasTaken : OwnPrint → List PlacedStep → Type 0
+HasTaken own steps = own.is_whole ≡ true → HasPrinted own steps
+
 -- it is what these events print, with the spans at which their definition keywords are reported
 pub record IsCachedText (part : CachedText) (steps : List PlacedStep) : Type 0 where
   pub printed : IsChunkOf part.printed (steps_of steps)

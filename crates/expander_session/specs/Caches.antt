@@ -10,7 +10,7 @@ use Rattle.expander_session.specs.Count.{Looked}
 use Rattle.expander_model.specs.Definitions.{Definition}
 use Rattle.expander_model.specs.Expansion.{World}
 use Rattle.expander_model.specs.Held.{Numbered, numbered_world, unnumbered}
-use Rattle.expander_model.specs.Scoping.{expanded}
+use Rattle.expander_model.specs.Limits.{expanded}
 use Rattle.expander_session.specs.CachedOutputs.{Holds}
 use Rattle.expander_session.specs.MemoRefs.{AreLinked, LeadsTo, plain_tops}
 use Rattle.expander_scope.specs.DefinitionTexts.{inner_of}

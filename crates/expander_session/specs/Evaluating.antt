@@ -20,7 +20,7 @@ use Rattle.expander_scope.specs.DefinitionIds.{number_by, numbered_by}
 use Rattle.expander_scope.specs.NewNumbers.{needed}
 use Rattle.expander_session.specs.Emitting.{HasOutput}
 use Rattle.expander_model.specs.Pieces.{relative}
-use Rattle.expander_model.specs.Scoping.{expanded}
+use Rattle.expander_model.specs.Limits.{expanded}
 use Rattle.expander_session.specs.Memos.{AreHashes}
 use Rattle.expander_session.specs.TextTurn.{held_of, is_unmatched}
 use Rattle.expander_session.specs.declared.cache.Cache.{Cache}

@@ -8,7 +8,7 @@ use Rattle.expander_model.specs.EqualTrees.{same_forest}
 use Rattle.expander_model.specs.Definitions.{Definition}
 use Rattle.expander_model.specs.Expansion.{Outcome, World}
 use Rattle.expander_model.specs.Held.{IsNumbered, Numbered, numbered_world, unnumbered}
-use Rattle.expander_model.specs.Scoping.{expanded}
+use Rattle.expander_model.specs.Limits.{expanded}
 
 -- a plain piece with piece-relative spans, and its expansion result
 pub record HeldPiece : Type 0 where

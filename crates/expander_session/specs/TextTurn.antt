@@ -10,7 +10,7 @@ use Rattle.expander_model.specs.DefinitionTrees.{definition_trees}
 use Rattle.expander_model.specs.EqualTrees.{same_forest}
 use Rattle.expander_scope.specs.Numbers.{AreEntries, Entry, Numbering, number_of, tree_of, with_trees}
 use Rattle.expander_model.specs.Pieces.{first_start, pieces, relative}
-use Rattle.expander_model.specs.Scoping.{expanded}
+use Rattle.expander_model.specs.Limits.{expanded}
 use Rattle.expander_model.specs.declared.dialect.Dialect.{Dialect}
 use Rattle.expander_session.specs.Reuse.{HeldPiece, IsHeld, matches, reused_outcome}
 

@@ -2,7 +2,7 @@
 ghost use Rattle.std.specs.Prelude.{◌≡◌, ◌∷◌, [], ◌++◌, IfOk, IfSome, List, OnOk, map};
 ghost use Rattle.bridge.specs.TokenEvents.{step_of};
 ghost use Rattle.expander_model.specs.Expansion.{PlacedStep, placed};
-ghost use Rattle.expander_session.specs.CachedOutputs.{HasPrinted, IsCachedText, IsOutputOf};
+ghost use Rattle.expander_session.specs.CachedOutputs.{HasPrinted, HasTaken, IsCachedText, IsOutputOf};
 ghost use Rattle.tt_data.specs.Forest.{Forest};
 ghost use Rattle.expander_session.specs.Emitting.{word_places};
 ghost use Rattle.expander_scope.specs.Outcomes.{placed_of};
@@ -41,6 +41,8 @@ pub(crate) struct OwnPrint {
     words: Vec<Span>,
     // Whether there was none.
     is_empty: bool,
+    // Whether none was taken back. What was printed cannot be.
+    is_whole: bool,
 }
 
 // About how many bytes a token takes, with the white space before it.
@@ -48,7 +50,7 @@ const TOKEN: usize = 6;
 
 /// Nothing printed yet, with room for about what a tree without calls prints.
 pub(crate) fn nothing_printed(alloc: Global, tree: &TopSubtree) -> Result<OwnPrint, AllocError>
-    ensures { IfOk result (λ own. HasPrinted own []) }
+    ensures { IfOk result (λ own. HasTaken own []) }
 {
     // A group is one token of the tree, and prints two brackets.
     let count = tree.token_trees().len();
@@ -59,6 +61,7 @@ pub(crate) fn nothing_printed(alloc: Global, tree: &TopSubtree) -> Result<OwnPri
         printer,
         words: Vec::new(alloc),
         is_empty: true,
+        is_whole: true,
     })
 }
 
@@ -78,7 +81,11 @@ fn add_word(
 }
 
 impl EventSink for OwnPrint {
-    ghost has_taken = { HasPrinted };
+    ghost use Rattle.std.specs.Prelude.{Unit};
+
+    ghost has_taken = { HasTaken };
+
+    ghost marks = { λ mark taken. Unit {0} };
 
     #[inline(always)]
     fn take(&mut self, step: &TokenEvent<'_>, outer: Option<Span>) -> Result<(), AllocError> {
@@ -88,6 +95,14 @@ impl EventSink for OwnPrint {
             Ok(()) => Ok(()),
             Err(_) => Err(AllocError),
         }
+    }
+
+    fn mark(&self) -> usize {
+        0
+    }
+
+    fn take_back(&mut self, _mark: usize) {
+        self.is_whole = false;
     }
 }
 
@@ -99,17 +114,28 @@ pub(crate) struct KeptPrint {
 }
 
 impl EventSink for KeptPrint {
-    ghost use Rattle.std.specs.Prelude.{◌≡◌, map};
+    ghost use Rattle.std.specs.Prelude.{◌≡◌, length, map};
     ghost use Rattle.expander_scope.specs.Outcomes.{placed_of};
-    ghost use Rattle.expander_session.specs.CachedOutputs.{HasPrinted};
+    ghost use Rattle.expander_session.specs.CachedOutputs.{HasTaken};
 
-    ghost has_taken = { λ kept taken. HasPrinted kept.own taken
+    ghost has_taken = { λ kept taken. HasTaken kept.own taken
         × (map placed_of kept.steps.items ≡ taken) };
+
+    ghost marks = { λ mark taken. length taken ≡ mark };
 
     fn take(&mut self, step: &TokenEvent<'_>, outer: Option<Span>) -> Result<(), AllocError> {
         self.own.take(step, outer)?;
         self.steps.take(step, outer)?;
         Ok(())
+    }
+
+    fn mark(&self) -> usize {
+        self.steps.mark()
+    }
+
+    fn take_back(&mut self, mark: usize) {
+        self.own.take_back(mark);
+        self.steps.take_back(mark);
     }
 }
 
@@ -127,11 +153,14 @@ fn part_of(own: OwnPrint) -> Result<Option<CachedText>, AllocError>
 }
 
 /// What to cache of events that were printed: their text, or no events if there were none. `None`
-/// if neither says what they were.
+/// if neither says what they were, or some were taken back.
 pub(crate) fn output_of(alloc: Global, own: OwnPrint) -> Result<Option<CachedOutput>, AllocError>
     ensures { IfOk result (λ o. IfSome o (λ output. (tree : Forest) (steps : List PlacedStep) →
-        HasPrinted own steps → IsOutputOf tree output steps)) }
+        HasTaken own steps → IsOutputOf tree output steps)) }
 {
+    if !own.is_whole {
+        return Ok(None);
+    }
     if own.is_empty {
         return Ok(Some(CachedOutput::Steps(Some(Vec::new(alloc)))));
     }
@@ -144,7 +173,7 @@ pub(crate) fn output_of(alloc: Global, own: OwnPrint) -> Result<Option<CachedOut
 /// What to cache of events that were printed and kept: what `output_of` says, or else the events.
 pub(crate) fn kept_output_of(alloc: Global, kept: KeptPrint) -> Result<CachedOutput, AllocError>
     ensures { IfOk result (λ output. (tree : Forest) (steps : List PlacedStep) →
-        HasPrinted kept.own steps → map placed_of kept.steps.items ≡ steps →
+        HasTaken kept.own steps → map placed_of kept.steps.items ≡ steps →
         IsOutputOf tree output steps) }
 {
     let KeptPrint { own, steps } = kept;

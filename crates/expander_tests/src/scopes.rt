@@ -78,6 +78,7 @@ fn scoped(alloc: Global, text: &str, scope: ScopeRules) -> Result<Session<SmallG
             scope,
             items: false,
             cfg: None,
+            limits: None,
         },
     );
     Ok(Session::with_dialect(alloc, text, SmallGrammar, edition, dialect, 128)?)
@@ -139,6 +140,7 @@ fn with_option(alloc: Global, text: &str) -> Result<Session<SmallGrammar>, Fail>
         scope: ScopeRules::Rust,
         items: true,
         cfg: Some(options),
+        limits: None,
     };
     Ok(Session::with_dialect(
         alloc,

@@ -70,6 +70,7 @@ pub(crate) const OPTIONS: Options<SmallGrammar> = Options {
         scope: ScopeRules::TopLevel,
         items: false,
         cfg: None,
+        limits: None,
     },
     depth: 128,
 };

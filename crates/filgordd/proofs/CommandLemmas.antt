@@ -64,23 +64,25 @@ makes_asked o name rows action (Err e) is named by asks = tt
 makes_asked o name rows action (Ok m) is named by asks = asks_for o name rows action m is named by asks
 
 -- a subcommand with these tests of its values
-abbrev subcommand_of_name : Text → ValueParser → ValueParser → ValueParser → ValueParser → Shape
-subcommand_of_name name grammar edition scope depth = record (new_shape name) {
+abbrev subcommand_of_name : Text → ValueParser → ValueParser → ValueParser → ValueParser → ValueParser → ValueParser → Shape
+subcommand_of_name name grammar edition scope depth calls tokens = record (new_shape name) {
   rules = option_rule (codes "grammar") (codes "rust") grammar
       ∷ option_rule (codes "edition") (codes "2024") edition
       ∷ option_rule (codes "scope") (codes "rust") scope
-      ∷ option_rule (codes "depth") (codes "128") depth ∷ file_rule ∷ [];
+      ∷ option_rule (codes "depth") (codes "128") depth
+      ∷ option_rule (codes "most-calls") (codes "1048576") calls
+      ∷ option_rule (codes "most-tokens") (codes "1048576") tokens ∷ file_rule ∷ [];
 }
 
 -- the program is one of which clap says the matches
 pub is_simple_program : (app : App) → IsProgram app → is_simple app ≡ true
 is_simple_program app p =
-    let base : Text → ValueParser → ValueParser → ValueParser → ValueParser → Shape = λ name g e s d. on_text (subcommand_of_name name g e s d) in
+    let base : Text → ValueParser → ValueParser → ValueParser → ValueParser → ValueParser → ValueParser → Shape = λ name g e s d m n. on_text (subcommand_of_name name g e s d m n) in
     let of_three : Shape → Shape → Shape → App = λ a b c. record { top = program_shape; subs = a ∷ b ∷ c ∷ [] } in
     let expand : Shape = with_more layout_rule
     (base (codes "expand") p.is_expand.is_base.is_base.grammar p.is_expand.is_base.is_base.edition p.is_expand.is_base.is_base.scope
-    p.is_expand.is_base.is_base.depth) in
-    let replay : Shape = base (codes "replay") p.is_replay.is_base.grammar p.is_replay.is_base.edition p.is_replay.is_base.scope p.is_replay.is_base.depth in
+    p.is_expand.is_base.is_base.depth p.is_expand.is_base.is_base.calls p.is_expand.is_base.is_base.tokens) in
+    let replay : Shape = base (codes "replay") p.is_replay.is_base.grammar p.is_replay.is_base.edition p.is_replay.is_base.scope p.is_replay.is_base.depth p.is_replay.is_base.calls p.is_replay.is_base.tokens in
     ap is_simple (p.app_is
     ∙ ap (λ (s : Shape). of_three s p.replay p.view) (p.is_expand.shape_is
     ∙ ap (with_more layout_rule) (p.is_expand.is_base.shape_is ∙ ap on_text p.is_expand.is_base.is_base.shape_is))

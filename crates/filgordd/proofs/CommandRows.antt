@@ -7,13 +7,15 @@ use Rattle.clap.specs.Walk.{Text, all_of, first_of, one_of}
 use Rattle.clap.specs.declared.builder.value_parser.ValueParser.{ValueParser}
 use Rattle.filgordd.specs.Commands.{file_rule, layout_rule, on_text, option_rule, program_shape, with_more}
 
-module _ (grammar edition scope depth : ValueParser) where
+module _ (grammar edition scope depth calls tokens : ValueParser) where
   abbrev named : Text → Shape
   named name = record (new_shape name) {
     rules = option_rule (codes "grammar") (codes "rust") grammar
         ∷ option_rule (codes "edition") (codes "2024") edition
         ∷ option_rule (codes "scope") (codes "rust") scope
-        ∷ option_rule (codes "depth") (codes "128") depth ∷ file_rule ∷ [];
+        ∷ option_rule (codes "depth") (codes "128") depth
+        ∷ option_rule (codes "most-calls") (codes "1048576") calls
+        ∷ option_rule (codes "most-tokens") (codes "1048576") tokens ∷ file_rule ∷ [];
   }
 
   abbrev program : App
@@ -44,6 +46,16 @@ module _ (grammar edition scope depth : ValueParser) where
       ≡ Some (Some (codes "view") ∷ Some (codes "rust") ∷ Some (codes "2024") ∷ Some (codes "rust") ∷ Some (codes "128") ∷ Some (codes "--depth") ∷ [])
   unfolding clap_on_literals
   after_dashes = refl
+
+  -- how many calls and tokens there may be, and the file
+  abbrev most : List Text → Option (List (Option Text))
+  most words = option_map (λ p. first_of (codes "most-calls") p.1 ∷ first_of (codes "most-tokens") p.1 ∷ first_of (codes "file") p.1 ∷ []) (subcommand_of program words)
+
+  -- `filgordd expand --most-calls 0 t`
+  no_call : most (codes "filgordd" ∷ codes "expand" ∷ codes "--most-calls" ∷ codes "0" ∷ codes "t" ∷ [])
+      ≡ Some (Some (codes "0") ∷ Some (codes "1048576") ∷ Some (codes "t") ∷ [])
+  unfolding clap_on_literals
+  no_call = refl
 
   -- the folder of libraries, the other files, and the file
   abbrev others : List Text → Option (Option Text × (Option (List Text) × Option Text))

@@ -68,11 +68,15 @@ pub record IsSubcommand (name : Text) (shape : Shape) : Type 0 where
   pub edition : ValueParser
   pub scope : ValueParser
   pub depth : ValueParser
+  pub calls : ValueParser
+  pub tokens : ValueParser
   pub shape_is : shape ≡ record (new_shape name) {
     rules = option_rule (codes "grammar") (codes "rust") grammar
         ∷ option_rule (codes "edition") (codes "2024") edition
         ∷ option_rule (codes "scope") (codes "rust") scope
-        ∷ option_rule (codes "depth") (codes "128") depth ∷ file_rule ∷ [];
+        ∷ option_rule (codes "depth") (codes "128") depth
+        ∷ option_rule (codes "most-calls") (codes "1048576") calls
+        ∷ option_rule (codes "most-tokens") (codes "1048576") tokens ∷ file_rule ∷ [];
   }
 
 -- a command with one more rule
@@ -129,11 +133,15 @@ pub record ChosenBy (rows : List Row) (options : Options AnyGrammar) : Type 0 wh
   pub edition : Text
   pub scope : Text
   pub depth : Text
+  pub calls : Text
+  pub tokens : Text
   pub has_grammar : first_of (codes "grammar") rows ≡ Some grammar
   pub has_edition : first_of (codes "edition") rows ≡ Some edition
   pub has_scope : first_of (codes "scope") rows ≡ Some scope
   pub has_depth : first_of (codes "depth") rows ≡ Some depth
-  pub chosen : Chosen grammar edition scope depth options
+  pub has_calls : first_of (codes "most-calls") rows ≡ Some calls
+  pub has_tokens : first_of (codes "most-tokens") rows ≡ Some tokens
+  pub chosen : Chosen grammar edition scope depth calls tokens options
 
 -- what they ask for: a job with these options, laid out or not, and, each as its word names it, a
 -- folder of libraries, other files in order, options of `cfg`, and a text

@@ -74,6 +74,32 @@ fn depth<'a>(alloc: Global) -> Arg<'a>
         .help("How many levels of calls are expanded, 0 to 255")
 }
 
+fn most_calls<'a>(alloc: Global) -> Arg<'a>
+    ensures rule { (p : ValueParser)
+        × (rule_of result ≡ option_rule (codes "most-calls") (codes "1048576") p) }
+    ensures own { result.global ≡ false }
+{
+    Arg::new(alloc, "most-calls")
+        .long("most-calls")
+        .value_name("N")
+        .value_parser(value_parser!(u64))
+        .default_value("1048576")
+        .help("How many calls may be expanded for one call of the text, with the scope of Rust")
+}
+
+fn most_tokens<'a>(alloc: Global) -> Arg<'a>
+    ensures rule { (p : ValueParser)
+        × (rule_of result ≡ option_rule (codes "most-tokens") (codes "1048576") p) }
+    ensures own { result.global ≡ false }
+{
+    Arg::new(alloc, "most-tokens")
+        .long("most-tokens")
+        .value_name("N")
+        .value_parser(value_parser!(u64))
+        .default_value("1048576")
+        .help("How many tokens their results may have together")
+}
+
 fn library<'a>(alloc: Global) -> Arg<'a>
     ensures rule { rule_of result ≡ library_rule }
     ensures own { result.global ≡ false }
@@ -150,6 +176,8 @@ fn subcommand<'a>(alloc: Global, name: &'a str, about: &'a str) -> Result<Comman
 {
     language_command(alloc, name, about)?
         .arg(depth(alloc))?
+        .arg(most_calls(alloc))?
+        .arg(most_tokens(alloc))?
         .arg(file(alloc))
 }
 

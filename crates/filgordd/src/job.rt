@@ -2,10 +2,10 @@
 ghost use Rattle.std.specs.Prelude.{◌≡◌, ◌≢◌, IfSome, MatchOption};
 ghost use Rattle.any_grammar.specs.declared.chosen.AnyGrammar.{AnyGrammar};
 ghost use Rattle.expander_model.specs.declared.scope_rules.ScopeRules.{ScopeRules};
-ghost use Rattle.filgordd.specs.Choices.{Chosen, IsGrammar, action_name, scope_name};
+ghost use Rattle.filgordd.specs.Choices.{Chosen, IsGrammar, IsLimited, action_name, scope_name};
 
 use any_grammar::AnyGrammar;
-use expander::{Dialect, Edition, Options, ScopeRules};
+use expander::{Dialect, Edition, Limits, Options, ScopeRules};
 use replay_script::edition_of;
 
 /// What is done with a text.
@@ -74,20 +74,39 @@ fn scope_of(name: &str) -> Option<ScopeRules>
     }
 }
 
-/// The options that these four words choose, if each of them is one.
+// The limits that two words are, which count by Rust's rules alone.
+fn limits_of(scope: ScopeRules, calls: &str, tokens: &str) -> Option<Option<Limits>>
+    ensures { IfSome result (IsLimited scope calls.now tokens.now) }
+{
+    match scope {
+        ScopeRules::TopLevel => Some(None),
+        ScopeRules::Rust => Some(Some(Limits {
+            calls: calls.parse::<usize>().ok()?,
+            tokens: tokens.parse::<usize>().ok()?,
+        })),
+    }
+}
+
+/// The options that these six words choose, if each of them is one.
 pub(crate) fn options_of(
     grammar: &str,
     edition: &str,
     scope: &str,
     depth: &str,
+    calls: &str,
+    tokens: &str,
 ) -> Option<Options<AnyGrammar>>
-    ensures { IfSome result (Chosen grammar.now edition.now scope.now depth.now) }
+    ensures { IfSome result
+        (Chosen grammar.now edition.now scope.now depth.now calls.now tokens.now) }
 {
     let edition = edition_of(edition)?;
+    let scope = scope_of(scope)?;
+    let mut dialect = Dialect::by(scope);
+    dialect.limits = limits_of(scope, calls, tokens)?;
     Some(Options {
         grammar: grammar_of(grammar, edition)?,
         edition,
-        dialect: Dialect::by(scope_of(scope)?),
+        dialect,
         depth: depth.parse::<u8>().ok()?,
     })
 }

@@ -42,7 +42,9 @@ fn options_in(matches: &ArgMatches<'_>) -> Option<Options<AnyGrammar>>
     let edition = matches.get_str("edition")?;
     let scope = matches.get_str("scope")?;
     let depth = matches.get_str("depth")?;
-    options_of(grammar, edition, scope, depth)
+    let calls = matches.get_str("most-calls")?;
+    let tokens = matches.get_str("most-tokens")?;
+    options_of(grammar, edition, scope, depth, calls, tokens)
 }
 
 // The words of an option that may be used any number of times, in order.

@@ -182,11 +182,21 @@ fn under(options: Options<AnyGrammar>, cfg: Option<CfgOptions>) -> Options<AnyGr
         dialect,
         depth,
     } = options;
-    let Dialect { scope, items, .. } = dialect;
+    let Dialect {
+        scope,
+        items,
+        limits,
+        ..
+    } = dialect;
     Options {
         grammar,
         edition,
-        dialect: Dialect { scope, items, cfg },
+        dialect: Dialect {
+            scope,
+            items,
+            cfg,
+            limits,
+        },
         depth,
     }
 }

@@ -9,7 +9,7 @@ use Rattle.expander_session.specs.declared.commands.Answer.{Answer}
 use Rattle.expander_session.specs.declared.commands.Answer.TheVariants.{Edited, BadEdit, Reply as Replied, Refused}
 use Rattle.expander_model.specs.declared.fault.Fault.{Fault}
 use Rattle.expander_model.specs.declared.fault.FaultKind.{FaultKind}
-use Rattle.expander_model.specs.declared.fault.FaultKind.TheVariants.{CannotExpand, BrokenDefinition, RecursionLimit, NestedDefinition, Unspellable}
+use Rattle.expander_model.specs.declared.fault.FaultKind.TheVariants.{CannotExpand, BrokenDefinition, RecursionLimit, NestedDefinition, Unspellable, TooLarge}
 use Rattle.expander_scope.specs.declared.refusal.Refusal.{Refusal}
 use Rattle.expander_scope.specs.declared.refusal.Refusal.TheVariants.{Memory, Tokens, Numbers}
 use Rattle.expander_session.specs.declared.session.Reply.TheVariants.{Read, Unread}
@@ -24,6 +24,7 @@ kind_name BrokenDefinition = codes "BrokenDefinition"
 kind_name RecursionLimit = codes "RecursionLimit"
 kind_name NestedDefinition = codes "NestedDefinition"
 kind_name Unspellable = codes "Unspellable"
+kind_name TooLarge = codes "TooLarge"
 
 abbrev pub read_kind_name : ReadFaultKind → List ℕ
 read_kind_name BadToken = codes "BadToken"

@@ -20,6 +20,7 @@ fn kind_name(kind: FaultKind) -> &'static str
         FaultKind::RecursionLimit => "RecursionLimit",
         FaultKind::NestedDefinition => "NestedDefinition",
         FaultKind::Unspellable => "Unspellable",
+        FaultKind::TooLarge => "TooLarge",
     }
 }
 

@@ -12,7 +12,7 @@ use Rattle.expander_model.specs.OtherPlaces.{definition_with}
 use Rattle.expander_model.specs.declared.dialect.Dialect.{Dialect}
 use Rattle.expander_model.specs.declared.fault.FaultKind.TheVariants.{RecursionLimit}
 use Rattle.expander_model.specs.Scoping.{Around, Scoped, Search, Attempt, Expander, attempt, only, scoped, search_list}
-use Rattle.textual_scope.specs.Limits.{Limits, Passed, passed_at_once, found_before, burst_before, size_note, Noted, definition, result, burst, Notes, note_of, noting, noted_world, noted_fit, noted_bursts, looked_in, until_passed, within, noted_list, plain_attempt, noted_attempt, noted, too_large, limited, bounded, outermost}
+use Rattle.expander_model.specs.Limits.{Limits, Passed, passed_at_once, found_before, burst_before, size_note, Noted, definition, result, burst, Notes, note_of, noting, noted_world, noted_fit, noted_bursts, looked_in, until_passed, within, noted_list, plain_attempt, noted_attempt, noted, too_large, limited, bounded, outermost}
 use Rattle.textual_scope.specs.ScopeChanges.{around_with, scoped_with}
 use Rattle.textual_scope.proofs.AgreementLemmas.{AgreeFrom, AgreeIn, agree_attempt, agree_list, agree_scoped}
 use Rattle.textual_scope.proofs.ChangeLemmas.{SameFrom, SameWith, attempt_with, attempt-with, list-with, scoped-with}

@@ -2,7 +2,7 @@
 use Rattle.std.proofs.Common.{◌≡◌, ◌≤◌, ◌-◌, ℕ, Bool, true, false, List, [], ◌∷◌, Option, Some, None, refl, arith, option_map, if◌then◌else◌}
 use Rattle.std.specs.Prelude.{◌||◌, nat_eq, nat_lt}
 use Rattle.std.proofs.lemmas.Bool.Decides.{nat_tests}
-use Rattle.textual_scope.specs.Limits.{Noted, definition, result, burst, passed_at_once, until_passed}
+use Rattle.expander_model.specs.Limits.{Noted, definition, result, burst, passed_at_once, until_passed}
 
 none_before : {X Y : Type 0} → (g : X → Y) (o : Option X) → option_map g o ≡ None → o ≡ None
 none_before g None e = refl

@@ -8,7 +8,7 @@ use Rattle.expander_model.specs.Meaning.{definitions_after}
 use Rattle.expander_model.specs.Pieces.{pieces}
 use Rattle.expander_model.specs.declared.fault.FaultKind.TheVariants.{RecursionLimit}
 use Rattle.expander_model.specs.declared.scope_rules.ScopeRules.TheVariants.{Rust}
-use Rattle.textual_scope.specs.Limits.{bounded}
+use Rattle.expander_model.specs.Limits.{bounded}
 use Rattle.expander_model.specs.declared.scope_rules.Standing.TheVariants.{Top}
 use Rattle.expander_model.specs.Scoping.{scoped, without_locals}
 use Rattle.textual_scope.proofs.Lines.{trees, words, step_word}

@@ -16,7 +16,7 @@ use Rattle.expander_model.specs.PieceStates.{after_call, after_group, after_leaf
 use Rattle.expander_model.specs.declared.begun.Begun.{Begun}
 use Rattle.expander_model.specs.declared.begun.Begun.TheVariants.{Nothing}
 use Rattle.expander_model.specs.declared.dialect.Dialect.{Dialect}
-use Rattle.textual_scope.specs.Limits.{Noted, definition, result, burst, looked_in, unnoted, note_of, noting, noted_world, noted_list, plain_attempt, noted_attempt, noted}
+use Rattle.expander_model.specs.Limits.{Noted, definition, result, burst, looked_in, unnoted, note_of, noting, noted_world, noted_list, plain_attempt, noted_attempt, noted}
 use Rattle.expander_model.specs.declared.scope_rules.Standing.TheVariants.{Argument}
 use Rattle.expander_model.specs.Scoping.{call_site, Around, Scoped, Search, Expander, Attempt, attempt, PieceKind, out_piece, definition_piece, plain_piece, kind_in, in_group, behind, only, and_next, in_brackets, is_left_out, defined, fitted, at_level, unbroken, looked_up, at_key, at_call, search_leaf, found_at, is_replaced, is_alone_in, takes_end, search_trees, search_piece, search_pieces, search_list, scoped}
 use Rattle.textual_scope.proofs.ResultLemmas.{same_next}
@@ -45,17 +45,17 @@ module _ {D : Type 0} where
       })
       ∙ same_next b (unnoted a) g (λ here. unnoted (f here)) around e (same (behind b.defines around))
 
-  abbrev SameNoted : Search (Noted D) → Search D → Type 0
+  abbrev pub SameNoted : Search (Noted D) → Search D → Type 0
   SameNoted one two = (around : Around) (f : Forest) → unnoted (one around f) ≡ two around f
 
   -- an attempt at a call, without its notes
   abbrev pub without_notes : Attempt (Noted D) → Attempt D
   without_notes a = record { replaces = a.replaces; given = unnoted a.given }
 
-  abbrev SameFrom : Expander (Noted D) → Expander D → Type 0
+  abbrev pub SameFrom : Expander (Noted D) → Expander D → Type 0
   SameFrom one two = (d : D) (around : Around) (site : CallSite) → without_notes (one (definition d) around site) ≡ two d around site
 
-  abbrev SameDeeper : Option (Expander (Noted D)) → Option (Expander D) → Type 0
+  abbrev pub SameDeeper : Option (Expander (Noted D)) → Option (Expander D) → Type 0
   SameDeeper None None = Unit {0}
   SameDeeper (Some one) (Some two) = SameFrom one two
   SameDeeper None (Some two) = ⊥
@@ -210,7 +210,7 @@ module _ {D : Type 0} (dialect : Dialect) (world : World D) (local : Definition 
         (λ here. search_pieces dialect world' local' scope' one deep here ps) (λ here. search_pieces dialect world local scope two deep' here ps)
         around (unnoted-part around p (kind_in dialect around.standing p)) (λ here. unnoted-parts here ps)
 
-  unnoted-list : (deep : Option (Expander (Noted D))) (deep' : Option (Expander D)) → SameDeeper deep deep' → (n : ℕ)
+  pub unnoted-list : (deep : Option (Expander (Noted D))) (deep' : Option (Expander D)) → SameDeeper deep deep' → (n : ℕ)
       → SameNoted (noted_list dialect world local scope deep n) (search_list dialect world local scope deep' n)
   unnoted-list deep deep' deeper zero around f = refl
   unnoted-list deep deep' deeper (suc n) around f =

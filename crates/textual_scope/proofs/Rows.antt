@@ -35,11 +35,11 @@ filled argument (group d inner rest) = group d (filled argument inner) (filled a
 
 -- these rules of scopes, and no other option
 abbrev pub by : ScopeRules → Dialect
-by rules = record { scope = rules; items = false; cfg = None }
+by rules = record { scope = rules; items = false; cfg = None; limits = None }
 
 -- Rust's rules, where the `;` behind an item's call goes with it
 abbrev pub with_items : Dialect
-with_items = record { scope = Rust; items = true; cfg = None }
+with_items = record { scope = Rust; items = true; cfg = None; limits = None }
 
 abbrev pub toy : Dialect → World Definition
 toy dialect = record {
@@ -286,5 +286,5 @@ invisible_groups_are_lists_too : items "macro_rules ! m { i } <| m ! ( ) ; |> mo
     ≡ words "<| i |> mod <| a |> { i ; } <| mod |> b { i ; }"
 invisible_groups_are_lists_too = refl
 
-by_top_level_rules_too : prints_by (record { scope = TopLevel; items = true; cfg = None }) "macro_rules ! m { i } mod a { m ! ( ) ; }" ≡ words "mod a { i }"
+by_top_level_rules_too : prints_by (record { scope = TopLevel; items = true; cfg = None; limits = None }) "macro_rules ! m { i } mod a { m ! ( ) ; }" ≡ words "mod a { i }"
 by_top_level_rules_too = refl

@@ -4,6 +4,5 @@ pub mod TopLevelMeaning
 pub mod Keywords
 pub mod ScopeChanges
 -- how much a call may make; no meaning takes it yet
-pub mod Limits
 -- what the functions inside a crate that expands by these promise each other
 pub mod FromLeft

@@ -13,7 +13,7 @@ ghost use Rattle.expander_model.specs.Pieces.{pieces};
 ghost use Rattle.cfg_options.specs.Conditions.{Options};
 ghost use Rattle.expander_model.specs.WholeItems.{definition_under, is_configured_out};
 ghost use Rattle.textual_scope.specs.Keywords.{AddsNoKeyword, HasNoKeyword, NestsNone};
-ghost use Rattle.textual_scope.specs.Limits.{Limits, Passed, noted, outermost, too_large, unnoted};
+ghost use Rattle.expander_model.specs.Limits.{Limits, Passed, noted, outermost, too_large, unnoted};
 ghost use Rattle.textual_scope.specs.ScopeChanges.{around_with, scoped_with};
 ghost use Rattle.textual_scope.specs.TopLevelMeaning.{top_meaning};
 ghost use Rattle.expander_model.specs.declared.scope_rules.Standing.{Standing};
@@ -38,20 +38,22 @@ pub fn top_level_scope_is_as_before()
 
 /// Where each `;` stays and nothing is left out, trees without a definition keyword are expanded by
 /// Rust's rules as if no list had definitions, and define nothing, if the definitions in scope give
-/// none: `lists`. There a text means by both rules what it means where no list has definitions, if
-/// no piece of it but definitions has a keyword, and they and those before it give none: `texts`.
+/// none: `lists`. There, without limits, a text means by both rules what it means where no list has
+/// definitions, if no piece of it but definitions has a keyword, and they and those before it give
+/// none: `texts`.
 pub fn without_keywords_both_rules_agree()
     ensures lists { (world : World Definition) (local : Definition → Definition)
         (scope : List ℕ → Option Definition) (depth : ℕ) (standing : Standing)
         (outer : Option Span) (f : Forest) →
         ((key : List ℕ) (d : Definition) → scope key ≡ Some d → AddsNoKeyword world d) →
         HasNoKeyword f →
-        scoped (record { scope = Rust; items = false; cfg = None }) world local scope depth
-        (without_locals standing outer) f
+        scoped (record { scope = Rust; items = false; cfg = None; limits = None }) world local scope
+        depth (without_locals standing outer) f
         ≡ only (expansion world scope depth outer f) }
     ensures texts { (layers : Layers) (depth : ℕ) (initial : List Definition) (text : List ℕ)
         (f : Forest) →
         layers.world.dialect.items ≡ false → layers.world.dialect.cfg ≡ None →
+        layers.world.dialect.limits ≡ None →
         layers.read text ≡ Ok f →
         All (AddsNoKeyword layers.world) initial →
         All (λ p. NestsNone layers.world p (definition_of p)) (pieces f) →

@@ -2,4 +2,4 @@ use Rattle.std.proofs.Common.{refl, rules}
 use Rattle.expander_session.proofs.cached_output.nothing_printed.Goals as goal
 
 pub returns : goal.returns
-returns c = record { printer = c.in_ok-printer.ensures; words = search rules; none = λ e. refl }
+returns c = λ whole. record { printer = c.in_ok-printer.ensures; words = search rules; none = λ e. refl }

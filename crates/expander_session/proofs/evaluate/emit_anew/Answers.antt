@@ -1,7 +1,7 @@
 use Rattle.std.proofs.Common.{◌≡◌, ap, rules, subst}
 use Rattle.tt.specs.Tops.{Top}
 use Rattle.expander_model.specs.Expansion.{PlacedStep}
-use Rattle.expander_model.specs.Scoping.{expanded}
+use Rattle.expander_model.specs.Limits.{expanded}
 use Rattle.expander_model.specs.Held.{numbered_world, unnumbered}
 use Rattle.expander_scope.specs.ScopeTable.{scope_in}
 use Rattle.expander_scope.specs.Outcomes.{Parts}

@@ -4,7 +4,7 @@ use Rattle.std.specs.List.{list_any}
 use Rattle.std.specs.Rc.{rc_value}
 use Rattle.std.specs.declared.rc.Rc.{Rc}
 use Rattle.expander_scope.specs.Interning.{numbers_in}
-use Rattle.expander_model.specs.Scoping.{expanded}
+use Rattle.expander_model.specs.Limits.{expanded}
 use Rattle.expander_model.specs.Held.{numbered_world, unnumbered}
 use Rattle.expander_scope.specs.ScopeTable.{scope_in}
 use Rattle.expander_session.specs.CachedOutputs.{Holds}

@@ -2,7 +2,7 @@ use Rattle.std.proofs.Common.{◌≡◌, ◌∙◌, List, Option, Some, Global, 
 use Rattle.std.specs.Prelude.{IfSome, slice_get}
 use Rattle.std.specs.Rc.{rc_value}
 use Rattle.std.specs.declared.rc.Rc.{Rc}
-use Rattle.expander_model.specs.Scoping.{expanded}
+use Rattle.expander_model.specs.Limits.{expanded}
 use Rattle.expander_model.specs.Held.{numbered_world, unnumbered}
 use Rattle.expander_scope.specs.ScopeTable.{scope_in}
 use Rattle.expander_session.specs.CachedOutputs.{Holds}

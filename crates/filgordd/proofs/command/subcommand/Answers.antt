@@ -11,14 +11,18 @@ returns-clause-shape c =
     let base : Shape = shape_of c.in_ok-language_command.field-0 in
     let is = c.in_ok-language_command.ensures.shape in
     let levels = c.depth.ensures.rule in
+    let calls = c.most_calls.ensures.rule in
+    let tokens = c.most_tokens.ensures.rule in
     let first = ap (λ (a : App). a.top) (c.in_ok-arg.ensures.shape c.depth.ensures.own) in
-    IfOk-weaker c.arg-2.result _ _ (λ r h. record {
+    let second = ap (λ (a : App). a.top) (c.in_ok-arg-2.ensures.shape c.most_calls.ensures.own) ∙ ap (with_more (rule_of c.most_calls.result)) first in
+    let third = ap (λ (a : App). a.top) (c.in_ok-arg-3.ensures.shape c.most_tokens.ensures.own) ∙ ap (with_more (rule_of c.most_tokens.result)) second in
+    IfOk-weaker c.arg-4.result _ _ (λ r h. record {
       grammar = is.grammar;
       edition = is.edition;
       scope = is.scope;
       depth = levels.0;
-      shape_is = ap (λ (a : App). a.top) (h.shape c.file.ensures.own) ∙ ap (with_more (rule_of c.file.result)) first
-          ∙ ap (λ (r : Rule). with_more r (with_more (rule_of c.depth.result) base)) c.file.ensures.rule
-          ∙ ap (λ (r : Rule). with_more file_rule (with_more r base)) levels.1
-          ∙ ap (λ (s : Shape). with_more file_rule (with_more (option_rule (codes "depth") (codes "128") levels.0) s)) is.shape_is;
-    }) c.arg-2.ensures
+      calls = calls.0;
+      tokens = tokens.0;
+      shape_is = ap (λ (a : App). a.top) (h.shape c.file.ensures.own) ∙ ap (with_more (rule_of c.file.result)) third
+          ∙ (λ i. with_more (c.file.ensures.rule i) (with_more (tokens.1 i) (with_more (calls.1 i) (with_more (levels.1 i) (is.shape_is i)))));
+    }) c.arg-4.ensures

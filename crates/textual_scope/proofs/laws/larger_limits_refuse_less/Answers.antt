@@ -1,5 +1,5 @@
 use Rattle.textual_scope.proofs.LimitLemmas.{within_more}
-use Rattle.textual_scope.specs.Limits.{definition, noted, noted_attempt}
+use Rattle.expander_model.specs.Limits.{definition, noted, noted_attempt}
 use Rattle.textual_scope.proofs.laws.larger_limits_refuse_less.Goals as goal
 
 pub returns : goal.returns

@@ -5,13 +5,10 @@ use Rattle.tt_data.specs.Forest.{Forest, size}
 use Rattle.expander_model.specs.Definitions.{Definition}
 use Rattle.expander_model.specs.Expansion.{World, Outcome, CallSite, stays}
 use Rattle.expander_model.specs.declared.dialect.Dialect.{Dialect}
-use Rattle.expander_model.specs.declared.fault.FaultKind.TheVariants.{RecursionLimit}
-use Rattle.expander_model.specs.Scoping.{Around, Scoped, Search, Attempt, Expander, attempt, only, scoped, search_list}
-
--- at most so many calls, and so many tokens
-pub record Limits : Type 0 where
-  pub calls : ℕ
-  pub tokens : ℕ
+use Rattle.expander_model.specs.declared.fault.FaultKind.TheVariants.{TooLarge}
+use Rattle.expander_model.specs.declared.limits.Limits.{Limits}
+use Rattle.expander_model.specs.declared.scope_rules.Standing.TheVariants.{Top}
+use Rattle.expander_model.specs.Scoping.{Around, Scoped, Search, Attempt, Expander, attempt, only, scoped, search_list, without_locals}
 
 -- what is noted of an expansion, in order, beside what it looks up: the size of each result, and
 -- each call for which a rule puts out more tokens than a tree may have
@@ -116,7 +113,7 @@ until_passed calls tokens ((key, None) ∷ notes) =
 abbrev pub within : {D : Type 0} → Option (Passed D) → Around → CallSite → Attempt D → Attempt D
 within None around site a = a
 within {D} (Some p) around site a =
-    let kept : Outcome D = stays RecursionLimit around.outer site in
+    let kept : Outcome D = stays TooLarge around.outer site in
     record {
       replaces = false;
       given = only (record kept { finds = p.finds; bursts = p.bursts });
@@ -174,3 +171,11 @@ module _ {D : Type 0} (dialect : Dialect) (world : World D) (local : Definition 
   abbrev pub outermost : Option Limits → ℕ → Search D
   outermost None = scoped dialect world local scope
   outermost (Some limits) = bounded limits
+
+-- the expansion of a tree with n levels left by the rules of this world, in the scope of what is
+-- around the tree; `local` makes a definition of a list one of the world
+abbrev pub expanded : {D : Type 0} → World D → (Definition → D) → (List ℕ → Option D) → ℕ → Forest
+    → Outcome D
+expanded world local scope depth tree =
+    let around : Around = without_locals Top None in
+    (outermost world.dialect world local scope world.dialect.limits depth around tree).outcome

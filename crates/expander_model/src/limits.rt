@@ -1,0 +1,10 @@
+//! How much one outermost call may make.
+
+/// At most so much for one outermost call.
+#[derive(Clone, Copy, Debug, PartialEq, Eq)]
+pub struct Limits {
+    /// How many calls are replaced for it, itself among them.
+    pub calls: usize,
+    /// How many tokens their results have, those in between too. A group counts as one.
+    pub tokens: usize,
+}

@@ -1,0 +1,197 @@
+-- What is left of limits behind notes, and where one is passed among them.
+use Rattle.std.proofs.Common.{◌≡◌, ℕ, ◌-◌, List, [], ◌∷◌, ◌++◌, refl, sym, ap, subst, ◌∙◌, append_assoc, append-nil, Bool, true, false, if◌then◌else◌}
+use Rattle.std.specs.Prelude.{Option, Some, None, option_map, ◌||◌, map}
+use Rattle.tt_data.specs.Forest.{Forest, size}
+use Rattle.expander_model.specs.Expansion.{Outcome}
+use Rattle.expander_model.specs.Held.{Numbered}
+use Rattle.expander_model.specs.Limits.{Noted, Notes, Passed, burst, definition, result, looked_in, note_of, passed_at_once, burst_before, found_before, until_passed}
+use Rattle.expander_model.specs.declared.limits.Limits.{Limits}
+use Rattle.expander_scope.specs.Expanding.{among_notes}
+use Rattle.expander_scope.specs.Spending.{BurstsFirst, Spends, is_passed, left_behind, less_one, limits_behind, passing, sized}
+
+-- ---- what is left
+
+none_is_left : {l : Limits} {b : Option Limits} {X : Type 0} → option_map Some (None {A = Limits}) ≡ Some b → X
+none_is_left e = absurd (cc e)
+
+not_passed : (c : Bool) (o : Option Limits) (b : Option Limits) → option_map Some (if c then None else o) ≡ Some b → (c ≡ false) × (option_map Some o ≡ Some b)
+not_passed true o b e = absurd (cc e)
+not_passed false o b e = (refl, e)
+
+behind_more : (l : Limits) (b : Option Limits) (xs ys : Notes Numbered) → option_map Some (limits_behind l xs) ≡ Some b → option_map Some (limits_behind l (xs ++ ys)) ≡ left_behind b ys
+behind_more l b [] ys e = let is : Some l ≡ b = cc e in ap (λ o. left_behind o ys) is
+behind_more l b ((key, Some (result n)) ∷ xs) ys e =
+    let h = not_passed (is_passed l n) (limits_behind (less_one l n) xs) b e in
+    ap (λ c. option_map Some (if c then None else limits_behind (less_one l n) (xs ++ ys))) h.0 ∙ behind_more (less_one l n) b xs ys h.1
+behind_more l b ((key, Some burst) ∷ xs) ys e = behind_more l b xs ys e
+behind_more l b ((key, Some (definition d)) ∷ xs) ys e = behind_more l b xs ys e
+behind_more l b ((key, None) ∷ xs) ys e = behind_more l b xs ys e
+
+pub left_more : (a b : Option Limits) (xs ys : Notes Numbered) → Spends a b xs → left_behind a (xs ++ ys) ≡ left_behind b ys
+left_more None b xs ys e = let is : None ≡ b = cc e in ap (λ o. left_behind o ys) is
+left_more (Some l) b xs ys e = behind_more l b xs ys e
+
+-- notes are spent one after another
+pub spends_more : (a b c : Option Limits) (xs ys : Notes Numbered) → Spends a b xs → Spends b c ys → Spends a c (xs ++ ys)
+spends_more a b c xs ys e h = left_more a b xs ys e ∙ h
+
+pub spends_nothing : (a : Option Limits) → Spends a a []
+spends_nothing None = refl
+spends_nothing (Some l) = refl
+
+pub spends_same : (a b : Option Limits) → b ≡ a → Spends a b []
+spends_same a b e = subst (λ x. Spends a x []) (sym e) (spends_nothing a)
+
+-- look-ups cost nothing
+pub spends_looks : (a : Option Limits) (xs : List (List ℕ × Option Numbered)) → Spends a a (among_notes xs)
+spends_looks None xs = refl
+spends_looks (Some l) [] = refl
+spends_looks (Some l) ((key, Some d) ∷ xs) = spends_looks (Some l) xs
+spends_looks (Some l) ((key, None) ∷ xs) = spends_looks (Some l) xs
+
+-- neither does a call that gives nothing
+pub spends_none : (a : Option Limits) (b : Bool) → Spends a a (note_of b None)
+spends_none None b = refl
+spends_none (Some l) true = refl
+spends_none (Some l) false = refl
+
+-- a call costs its size, whether a rule puts out too much or not
+pub spends_note : (a c : Option Limits) (b : Bool) (g : Forest) (ys : Notes Numbered) → Spends a c (sized (size g) ++ ys) → Spends a c (note_of b (Some g) ++ ys)
+spends_note None c b g ys e = e
+spends_note (Some l) c true g ys e = e
+spends_note (Some l) c false g ys e = e
+
+-- ---- where a limit is passed
+
+-- a rule puts out too much
+abbrev pub has_burst : Notes Numbered → Bool
+has_burst [] = false
+has_burst ((key, Some burst) ∷ xs) = true
+has_burst ((key, Some (result n)) ∷ xs) = has_burst xs
+has_burst ((key, Some (definition d)) ∷ xs) = has_burst xs
+has_burst ((key, None) ∷ xs) = has_burst xs
+
+-- what comes before a limit is passed, behind these notes
+abbrev pub behind_notes : Notes Numbered → Passed Numbered → Passed Numbered
+behind_notes xs p = record { finds = looked_in xs ++ p.finds; bursts = has_burst xs || p.bursts }
+
+behind_none : (o : Option (Passed Numbered)) → o ≡ option_map (behind_notes []) o
+behind_none None = refl
+behind_none (Some p) = refl
+
+mapped_burst : (key : List ℕ) (xs : Notes Numbered) (o : Option (Passed Numbered)) → option_map burst_before (option_map (behind_notes xs) o) ≡ option_map (behind_notes ((key, Some burst) ∷ xs)) o
+mapped_burst key xs None = refl
+mapped_burst key xs (Some p) = refl
+
+mapped_find : (key : List ℕ) (d : Numbered) (xs : Notes Numbered) (o : Option (Passed Numbered)) → option_map (found_before (key, Some d)) (option_map (behind_notes xs) o) ≡ option_map (behind_notes ((key, Some (definition d)) ∷ xs)) o
+mapped_find key d xs None = refl
+mapped_find key d xs (Some p) = refl
+
+mapped_none : (key : List ℕ) (xs : Notes Numbered) (o : Option (Passed Numbered)) → option_map (found_before (key, None)) (option_map (behind_notes xs) o) ≡ option_map (behind_notes ((key, None) ∷ xs)) o
+mapped_none key xs None = refl
+mapped_none key xs (Some p) = refl
+
+until_more : (l : Limits) (b : Option Limits) (xs ys : Notes Numbered) → option_map Some (limits_behind l xs) ≡ Some b
+    → until_passed l.calls l.tokens (xs ++ ys) ≡ option_map (behind_notes xs) (passing b ys)
+until_more l b [] ys e = let is : Some l ≡ b = cc e in ap (λ o. passing o ys) is ∙ behind_none (passing b ys)
+until_more l b ((key, Some (result n)) ∷ xs) ys e =
+    let h = not_passed (is_passed l n) (limits_behind (less_one l n) xs) b e in
+    ap (λ c. if c then Some passed_at_once else until_passed (l.calls - 1) (l.tokens - n) (xs ++ ys)) h.0 ∙ until_more (less_one l n) b xs ys h.1
+until_more l b ((key, Some burst) ∷ xs) ys e = ap (option_map burst_before) (until_more l b xs ys e) ∙ mapped_burst key xs (passing b ys)
+until_more l b ((key, Some (definition d)) ∷ xs) ys e = ap (option_map (found_before (key, Some d))) (until_more l b xs ys e) ∙ mapped_find key d xs (passing b ys)
+until_more l b ((key, None) ∷ xs) ys e = ap (option_map (found_before (key, None))) (until_more l b xs ys e) ∙ mapped_none key xs (passing b ys)
+
+-- a limit is passed behind notes in which none is
+pub passing_more : (a b : Option Limits) (xs ys : Notes Numbered) → Spends a b xs → passing a (xs ++ ys) ≡ option_map (behind_notes xs) (passing b ys)
+passing_more None b xs ys e = let is : None ≡ b = cc e in ap (λ o. option_map (behind_notes xs) (passing o ys)) is
+passing_more (Some l) b xs ys e = until_more l b xs ys e
+
+nothing_passes : (b : Option Limits) → passing b [] ≡ None
+nothing_passes None = refl
+nothing_passes (Some l) = refl
+
+-- none is passed in notes that are spent
+pub none_passed : (a b : Option Limits) (xs : Notes Numbered) → Spends a b xs → passing a xs ≡ None
+none_passed a b xs e =
+    ap (passing a) (sym (append-nil xs)) ∙ passing_more a b xs [] e ∙ ap (option_map (behind_notes xs)) (nothing_passes b)
+
+mapped_some : {X Y : Type 0} (f : X → Y) (o : Option X) (y : Y) → option_map f o ≡ Some y → (x : X) × ((o ≡ Some x) × (f x ≡ y))
+mapped_some f None y e = absurd (cc e)
+mapped_some f (Some x) y e = (x, (refl, cc e))
+
+passed_or : (c : Bool) (q : Passed Numbered) (o o' : Option (Passed Numbered)) (p : Passed Numbered) → (o ≡ Some p → o' ≡ Some p) → (if c then Some q else o) ≡ Some p → (if c then Some q else o') ≡ Some p
+passed_or true q o o' p f e = e
+passed_or false q o o' p f e = f e
+
+until_before : (calls tokens : ℕ) (xs ys : Notes Numbered) (p : Passed Numbered) → until_passed calls tokens xs ≡ Some p → until_passed calls tokens (xs ++ ys) ≡ Some p
+until_before calls tokens [] ys p e = absurd (cc e)
+until_before calls tokens ((key, Some (result n)) ∷ xs) ys p e =
+    passed_or _ passed_at_once (until_passed (calls - 1) (tokens - n) xs) (until_passed (calls - 1) (tokens - n) (xs ++ ys)) p (until_before (calls - 1) (tokens - n) xs ys p) e
+until_before calls tokens ((key, Some burst) ∷ xs) ys p e =
+    let h = mapped_some burst_before (until_passed calls tokens xs) p e in
+    ap (option_map burst_before) (until_before calls tokens xs ys h.0 h.1.0) ∙ ap Some h.1.1
+until_before calls tokens ((key, Some (definition d)) ∷ xs) ys p e =
+    let h = mapped_some (found_before (key, Some d)) (until_passed calls tokens xs) p e in
+    ap (option_map (found_before (key, Some d))) (until_before calls tokens xs ys h.0 h.1.0) ∙ ap Some h.1.1
+until_before calls tokens ((key, None) ∷ xs) ys p e =
+    let h = mapped_some (found_before (key, None)) (until_passed calls tokens xs) p e in
+    ap (option_map (found_before (key, None))) (until_before calls tokens xs ys h.0 h.1.0) ∙ ap Some h.1.1
+
+-- notes behind it change nothing
+pub passing_before : (a : Option Limits) (xs ys : Notes Numbered) (p : Passed Numbered) → passing a xs ≡ Some p → passing a (xs ++ ys) ≡ Some p
+passing_before None xs ys p e = absurd (cc e)
+passing_before (Some l) xs ys p e = until_before l.calls l.tokens xs ys p e
+
+gone_at : (c : Bool) (l : Limits) (o : Option (Passed Numbered)) → option_map (Some {A = Limits}) (if c then None else Some l) ≡ None → (if c then Some passed_at_once else o) ≡ Some (passed_at_once {D = Numbered})
+gone_at true l o e = refl
+gone_at false l o e = absurd (cc e)
+
+-- the first call passes it
+pub passed_here : (a : Option Limits) (n : ℕ) (ys : Notes Numbered) → left_behind a (sized n) ≡ None → passing a (sized n ++ ys) ≡ Some passed_at_once
+passed_here None n ys e = absurd (cc e)
+passed_here (Some l) n ys e = gone_at (is_passed l n) (less_one l n) (until_passed (l.calls - 1) (l.tokens - n) ys) e
+
+-- whether a rule puts out too much or not
+pub passing_note : (a : Option Limits) (b : Bool) (g : Forest) (ys : Notes Numbered) (p : Passed Numbered) → passing a (sized (size g) ++ ys) ≡ Some p
+    → (q : Passed Numbered) × ((passing a (note_of b (Some g) ++ ys) ≡ Some q) × (q.finds ≡ p.finds))
+passing_note None b g ys p e = absurd (cc e)
+passing_note (Some l) true g ys p e = (burst_before p, (ap (option_map burst_before) e, refl))
+passing_note (Some l) false g ys p e = (p, (e, refl))
+
+pub none_passed_note : (a : Option Limits) (b : Bool) (g : Forest) (ys : Notes Numbered) → passing a (sized (size g) ++ ys) ≡ None → passing a (note_of b (Some g) ++ ys) ≡ None
+none_passed_note None b g ys e = refl
+none_passed_note (Some l) true g ys e = ap (option_map burst_before) e
+none_passed_note (Some l) false g ys e = e
+
+-- ---- too much, before a limit is passed
+
+pub bursts_none : (xs : Notes Numbered) → BurstsFirst None xs
+bursts_none xs more p e = absurd (cc e)
+
+-- behind notes in which none is passed
+pub bursts_more : (a b : Option Limits) (xs ys : Notes Numbered) → Spends a b xs → BurstsFirst b ys → BurstsFirst a (xs ++ ys)
+bursts_more a b xs ys e first more p is =
+    let h = mapped_some (behind_notes xs) (passing b (ys ++ more)) p
+    (sym (passing_more a b xs (ys ++ more) e) ∙ ap (passing a) (sym (append_assoc xs ys more)) ∙ is) in
+    sym (ap (λ (q : Passed Numbered). q.bursts) h.1.1) ∙ later (has_burst xs) h.0.bursts (first more h.0 h.1.0)
+  where
+    later : (c d : Bool) → d ≡ true → (c || d) ≡ true
+    later true d e = refl
+    later false d e = e
+
+-- before more notes
+pub bursts_before : (a : Option Limits) (xs ys : Notes Numbered) → BurstsFirst a xs → BurstsFirst a (xs ++ ys)
+bursts_before a xs ys first more p is = first (ys ++ more) p (ap (passing a) (sym (append_assoc xs ys more)) ∙ is)
+
+-- at once
+pub bursts_here : (a : Option Limits) (o : Option Forest) (ys : Notes Numbered) → BurstsFirst a (note_of true o ++ ys)
+bursts_here None o ys more p e = absurd (cc e)
+bursts_here (Some l) None ys more p e =
+    let h = mapped_some burst_before (until_passed l.calls l.tokens (ys ++ more)) p e in sym (ap (λ (q : Passed Numbered). q.bursts) h.1.1)
+bursts_here (Some l) (Some g) ys more p e =
+    let h = mapped_some burst_before (until_passed l.calls l.tokens ((([], Some (result (size g))) ∷ ys) ++ more)) p e in sym (ap (λ (q : Passed Numbered). q.bursts) h.1.1)
+
+-- with the note of a call
+pub bursts_note : (a : Option Limits) (b : Bool) (g : Forest) (ys : Notes Numbered) → BurstsFirst a (sized (size g) ++ ys) → BurstsFirst a (note_of b (Some g) ++ ys)
+bursts_note a true g ys first = bursts_here a (Some g) ys
+bursts_note a false g ys first = first
