@@ -55,7 +55,7 @@ use Rattle.expander_scope.proofs.CallResultLemmas.{lookups_among, no_lookups, ta
 use Rattle.expander_scope.proofs.ListLemmas.{entered_in, here_in, left_at_beginning, left_at_end, left_group, left_leaf, opened, passed_in, then_assoc}
 use Rattle.expander_scope.proofs.OutcomeLemmas.{or_later}
 use Rattle.expander_scope.proofs.SinkLemmas.{takes_none, takes_both}
-use Rattle.expander_scope.proofs.SpendingLemmas.{behind_notes, bursts_before, bursts_more, bursts_none, bursts_note, none_passed, passing_before, passing_more, passing_note, spends_looks, spends_more, spends_note, spends_nothing, spends_same}
+use Rattle.expander_scope.proofs.SpendingLemmas.{IsApart, behind_notes, bursts_before, bursts_more, bursts_none, bursts_note, none_passed, passing_before, passing_more, passing_note, spends_looks, spends_more, spends_note, spends_nothing, spends_same}
 use Rattle.expander_scope.proofs.TurnLemmas.{IsCall, call_is_call, colons_is_call, neither, rest_smaller}
 use Rattle.textual_scope.proofs.LeftLemmas.{at_definition, at_out}
 use Rattle.textual_scope.proofs.ResultLemmas.{followed_by_nothing, nothing_and}
@@ -563,11 +563,6 @@ module _ (dialect : Dialect) (world : World Numbered) (scope : List ℕ → Opti
 
       notes_is : (d : Numbered) (g : Forest) → notes_with g (result_of g).outcome.finds ≡ notes_with g (result_here d g).outcome.finds
       notes_is d g = ap (λ (a : Scoped (Noted Numbered)). notes_with g a.outcome.finds) (result_is d g)
-
-      -- limits of its own has only a call that none is expanded around
-      abbrev pub IsApart : Option Limits → Option Limits → Type 0
-      IsApart None left = Unit {0}
-      IsApart (Some l) left = left ≡ None
 
       abbrev made_with : Option Limits → Numbered → Forest → Scoped (Noted Numbered) → Scoped (Noted Numbered)
       made_with l d g a = made_of dialect world scope d (here_in dialect world scope levels outer p.standing p.locals) site l g a

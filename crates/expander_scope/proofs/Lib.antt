@@ -14,6 +14,7 @@ mod NameStackLemmas
 mod LocalLemmas
 mod ListLemmas
 mod SpendingLemmas
+mod ReplaceLemmas
 mod CallResultLemmas
 mod GoesLemmas
 mod QuietLemmas

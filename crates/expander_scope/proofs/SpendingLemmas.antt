@@ -1,12 +1,14 @@
 -- What is left of limits behind notes, and where one is passed among them.
 use Rattle.std.proofs.Common.{◌≡◌, ℕ, ◌-◌, List, [], ◌∷◌, ◌++◌, refl, sym, ap, subst, ◌∙◌, append_assoc, append-nil, Bool, true, false, if◌then◌else◌}
-use Rattle.std.specs.Prelude.{Option, Some, None, option_map, ◌||◌, map}
+use Rattle.std.specs.Prelude.{Option, Some, None, is_some, option_map, ◌||◌, map}
 use Rattle.tt_data.specs.Forest.{Forest, size}
 use Rattle.expander_model.specs.Expansion.{Outcome}
 use Rattle.expander_model.specs.Held.{Numbered}
 use Rattle.expander_model.specs.Limits.{Noted, Notes, Passed, burst, definition, result, looked_in, note_of, passed_at_once, burst_before, found_before, until_passed}
 use Rattle.expander_model.specs.declared.limits.Limits.{Limits}
-use Rattle.expander_scope.specs.Expanding.{among_notes}
+use Rattle.tt_data.specs.declared.span.Span.{Span}
+use Rattle.expander_model.specs.declared.dialect.Dialect.{Dialect}
+use Rattle.expander_scope.specs.Expanding.{among_notes, limits_at}
 use Rattle.expander_scope.specs.Spending.{BurstsFirst, Spends, is_passed, left_behind, less_one, limits_behind, passing, sized}
 
 -- ---- what is left
@@ -195,3 +197,35 @@ bursts_here (Some l) (Some g) ys more p e =
 pub bursts_note : (a : Option Limits) (b : Bool) (g : Forest) (ys : Notes Numbered) → BurstsFirst a (sized (size g) ++ ys) → BurstsFirst a (note_of b (Some g) ++ ys)
 bursts_note a true g ys first = bursts_here a (Some g) ys
 bursts_note a false g ys first = first
+
+-- ---- whose limits
+
+-- limits of its own has only a call that none is expanded around
+abbrev pub IsApart : Option Limits → Option Limits → Type 0
+IsApart None left = Unit {0}
+IsApart (Some l) left = left ≡ None
+
+pub apart_at : (dialect : Dialect) (outer : Option Span) (left : Option Limits) → (outer ≡ None → left ≡ None) → IsApart (limits_at dialect outer) left
+apart_at dialect None left h = go dialect.limits
+  where
+    go : (l : Option Limits) → IsApart l left
+    go None = tt
+    go (Some l) = h refl
+apart_at dialect (Some at) left h = tt
+
+pub none_outside : (outer : Option Span) → is_some outer ≡ false → outer ≡ None
+none_outside None e = refl
+none_outside (Some at) e = absurd (cc e)
+
+pub none_inside : (dialect : Dialect) (outer : Option Span) → is_some outer ≡ true → limits_at dialect outer ≡ None
+none_inside dialect None e = absurd (cc e)
+none_inside dialect (Some at) e = refl
+
+-- who has limits is outside
+pub limits_outside : (dialect : Dialect) (outer : Option Span) → is_some (limits_at dialect outer) ≡ true → outer ≡ None
+limits_outside dialect None e = refl
+limits_outside dialect (Some at) e = absurd (cc e)
+
+pub no_limits : (o : Option Limits) → is_some o ≡ false → o ≡ None
+no_limits None e = refl
+no_limits (Some l) e = absurd (cc e)
