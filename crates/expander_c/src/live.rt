@@ -8,7 +8,9 @@ use crate::options::SessionOptions;
 use crate::sources::{Pick, Sources};
 use any_grammar::AnyGrammar;
 use cfg_options::CfgOptions;
-use expander::{Dialect, Edition, Expansion, Home, Limits, ReadFault, Reply, Session, Source, SourceRead};
+use expander::{
+    Dialect, Edition, Expansion, Home, Limits, ReadFault, Reply, Session, Source, SourceRead,
+};
 use std::alloc::{AllocError, Global};
 use tt_data::TtFault;
 

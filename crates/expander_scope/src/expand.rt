@@ -600,7 +600,13 @@ fn stay<'a, S: EventSink>(
 {
     walk.begun = begun_behind(false, walk.begun, &call.from_group);
     push_told(&mut search.out.faults, told.0, told.1)?;
-    keep(alloc, outer, &mut search.out, &mut walk.trees.here, call.rest)
+    keep(
+        alloc,
+        outer,
+        &mut search.out,
+        &mut walk.trees.here,
+        call.rest,
+    )
 }
 
 // Searches what a call gives, which counts. `false` if a limit is passed.

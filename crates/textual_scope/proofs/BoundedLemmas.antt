@@ -10,9 +10,10 @@ use Rattle.expander_model.specs.Definitions.{Definition}
 use Rattle.expander_model.specs.Expansion.{World, Outcome, CallSite}
 use Rattle.expander_model.specs.OtherPlaces.{definition_with}
 use Rattle.expander_model.specs.declared.dialect.Dialect.{Dialect}
-use Rattle.expander_model.specs.declared.fault.FaultKind.TheVariants.{RecursionLimit}
+use Rattle.expander_model.specs.declared.fault.FaultKind.TheVariants.{TooLarge}
 use Rattle.expander_model.specs.Scoping.{Around, Scoped, Search, Attempt, Expander, attempt, only, scoped, search_list}
-use Rattle.expander_model.specs.Limits.{Limits, Passed, passed_at_once, found_before, burst_before, size_note, Noted, definition, result, burst, Notes, note_of, noting, noted_world, noted_fit, noted_bursts, looked_in, until_passed, within, noted_list, plain_attempt, noted_attempt, noted, too_large, limited, bounded, outermost}
+use Rattle.expander_model.specs.Limits.{Passed, passed_at_once, found_before, burst_before, size_note, Noted, definition, result, burst, Notes, note_of, noting, noted_world, noted_fit, noted_bursts, looked_in, until_passed, within, noted_list, plain_attempt, noted_attempt, noted, too_large, limited, bounded, outermost}
+use Rattle.expander_model.specs.declared.limits.Limits.{Limits}
 use Rattle.textual_scope.specs.ScopeChanges.{around_with, scoped_with}
 use Rattle.textual_scope.proofs.AgreementLemmas.{AgreeFrom, AgreeIn, agree_attempt, agree_list, agree_scoped}
 use Rattle.textual_scope.proofs.ChangeLemmas.{SameFrom, SameWith, attempt_with, attempt-with, list-with, scoped-with}
@@ -184,7 +185,7 @@ module _ {D E : Type 0} (f : Span → Span) (h : D → E) where
       → within (option_map passed_with o) (around_with f around) (site_with f site) (attempt_with f h a) ≡ attempt_with f h (within o around site a)
   within-with None around site a = refl
   within-with (Some p) around site a =
-      ap (λ (o : Outcome E). record { replaces = false; given = only (record o { finds = map (find_with h) p.finds; bursts = p.bursts }) }) (stays-with f h RecursionLimit around.outer site)
+      ap (λ (o : Outcome E). record { replaces = false; given = only (record o { finds = map (find_with h) p.finds; bursts = p.bursts }) }) (stays-with f h TooLarge around.outer site)
 
   module _ (dialect : Dialect) (w : World D) (v : World E) (c : Changes f h w v) (local : Definition → D) (local' : Definition → E) (made : (d : Definition) → local' (definition_with f d) ≡ h (local d))
       (scope : List ℕ → Option D) (changed : List ℕ → Option E) (finds : ScopeChange h scope changed) where

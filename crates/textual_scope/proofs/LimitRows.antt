@@ -6,7 +6,7 @@ use Rattle.expander_model.specs.Definitions.{Definition, nearest}
 use Rattle.expander_model.specs.Expansion.{Outcome}
 use Rattle.expander_model.specs.Meaning.{definitions_after}
 use Rattle.expander_model.specs.Pieces.{pieces}
-use Rattle.expander_model.specs.declared.fault.FaultKind.TheVariants.{RecursionLimit}
+use Rattle.expander_model.specs.declared.fault.FaultKind.TheVariants.{TooLarge}
 use Rattle.expander_model.specs.declared.scope_rules.ScopeRules.TheVariants.{Rust}
 use Rattle.expander_model.specs.Limits.{bounded}
 use Rattle.expander_model.specs.declared.scope_rules.Standing.TheVariants.{Top}
@@ -44,7 +44,7 @@ one_call_less = refl
 one_token_less : printed (limited_to 7 41 "macro_rules ! d { d ! { } d ! { } }" "{ d ! { } }") ≡ words "{ d ! { } }"
 one_token_less = refl
 
-one_fault : map (λ x. x.0) (limited_to 6 42 "macro_rules ! d { d ! { } d ! { } }" "d ! { }").faults ≡ RecursionLimit ∷ []
+one_fault : map (λ x. x.0) (limited_to 6 42 "macro_rules ! d { d ! { } d ! { } }" "d ! { }").faults ≡ TooLarge ∷ []
 one_fault = refl
 
 -- the third result passes the limit; its call was looked up before

@@ -1,7 +1,8 @@
 -- Where no list has a definition, a search is an expansion, and defines nothing.
 use Rattle.std.proofs.Common.{◌≡◌, ◌⊎◌, inl, inr, ℕ, zero, suc, ◌<◌, ◌≤◌, Bool, true, false, List, [], ◌∷◌, Option, Some, None, refl, ap, sym, ◌∙◌, arith, unwrap_or, if◌then◌else◌}
 use Rattle.std.specs.Prelude.{◌&&◌}
-use Rattle.expander_model.specs.Limits.{Limits, limited, outermost}
+use Rattle.expander_model.specs.Limits.{limited, outermost}
+use Rattle.expander_model.specs.declared.limits.Limits.{Limits}
 use Rattle.tt_data.specs.Forest.{Forest, size}
 use Rattle.tt_data.specs.Walk.{at_leaf, walk}
 use Rattle.tt_data.specs.declared.delimiter.Delimiter.{Delimiter}

@@ -17,7 +17,8 @@ use Rattle.expander_model.specs.PieceStates.{after_call, after_group, after_leaf
 use Rattle.expander_model.specs.declared.begun.Begun.{Begun}
 use Rattle.expander_model.specs.declared.begun.Begun.TheVariants.{Nothing}
 use Rattle.expander_model.specs.declared.dialect.Dialect.{Dialect}
-use Rattle.expander_model.specs.Limits.{Limits, Noted, definition, result, burst, note_of, noted_world, noted_fit, noted_bursts, noting, noted_list, plain_attempt, noted_attempt, noted, until_passed, too_large, Passed, passed_at_once, found_before, burst_before, size_note}
+use Rattle.expander_model.specs.Limits.{Noted, definition, result, burst, note_of, noted_world, noted_fit, noted_bursts, noting, noted_list, plain_attempt, noted_attempt, noted, until_passed, too_large, Passed, passed_at_once, found_before, burst_before, size_note}
+use Rattle.expander_model.specs.declared.limits.Limits.{Limits}
 use Rattle.expander_model.specs.declared.scope_rules.Standing.TheVariants.{Argument}
 use Rattle.expander_model.specs.Scoping.{call_site, Around, Scoped, Search, Expander, Attempt, PieceKind, out_piece, definition_piece, plain_piece, kind_in, in_group, behind, only, and_next, in_brackets, is_left_out, fitted, at_level, unbroken, looked_up, at_key, at_call, search_leaf, found_at, is_replaced, is_alone_in, takes_end, search_trees, search_piece, search_pieces}
 use Rattle.textual_scope.proofs.ResultLemmas.{same_next}

@@ -13,7 +13,8 @@ use Rattle.expander_model.specs.declared.scope_rules.ScopeRules.{ScopeRules}
 use Rattle.expander_model.specs.Dialects as dialects
 use Rattle.expander_model.specs.Pieces.{cut, pieces}
 use Rattle.expander_model.specs.declared.dialect.Dialect.{Dialect}
-use Rattle.expander_model.specs.Limits.{Limits, outermost, expanded}
+use Rattle.expander_model.specs.Limits.{outermost, expanded}
+use Rattle.expander_model.specs.declared.limits.Limits.{Limits}
 use Rattle.expander_model.specs.declared.scope_rules.ScopeRules.TheVariants.{TopLevel, Rust}
 use Rattle.textual_scope.specs.Keywords.{HasNoKeyword, AddsNoKeyword, NestsNone}
 use Rattle.textual_scope.specs.TopLevelMeaning.{top_member, top_members, top_over, top_meaning}
