@@ -1,7 +1,7 @@
 -- What a call adds to the output of a search.
 use Rattle.std.proofs.Common.{◌≡◌, ℕ, ◌-◌, ◌<◌, zero, suc, List, [], ◌∷◌, ◌++◌, refl, sym, ap, subst, ◌∙◌, append_assoc, append-nil, arith, Bool, true, false, if◌then◌else◌}
 use Rattle.std.specs.Prelude.{map, Option, Some, None, unwrap_or, option_map, is_some, Ok, Err, not, ◌&&◌}
-use Rattle.tt_data.specs.Forest.{Forest}
+use Rattle.tt_data.specs.Forest.{Forest, size}
 use Rattle.tt_data.specs.Walk.{Step, walk}
 use Rattle.tt_data.specs.declared.leaf.Ident.{Ident}
 use Rattle.tt_data.specs.declared.span.Span.{Span}
@@ -25,7 +25,7 @@ use Rattle.expander_model.specs.declared.fault.FaultKind.{FaultKind}
 use Rattle.expander_model.specs.declared.fault.FaultKind.TheVariants.{CannotExpand, BrokenDefinition, RecursionLimit, TooLarge}
 use Rattle.expander_model.specs.Changes.{find_with}
 use Rattle.textual_scope.proofs.NoteLemmas.{SameDeeper, SameFrom, looked_in-append, unnoted-list, unnoted-noted, without_notes}
-use Rattle.expander_scope.specs.Expanding.{Levels, Adds, Expands, among_notes, answer, answer_at, as_noted, deeper_at, expander_by, makes_too_many, noted_local, noted_scope, searched}
+use Rattle.expander_scope.specs.Expanding.{Levels, Adds, Expands, among_notes, answer, answer_at, as_noted, deeper_at, expander_by, makes_too_many, noted_by, noted_local, noted_scope, searched}
 use Rattle.expander_scope.specs.Spending.{BurstsFirst, Spends, notes_with, passing}
 use Rattle.expander_scope.specs.ListsLeft.{IsAhead, IsOutAhead, Left, Place, all_left, groups_left, in_list, list_left, then_left}
 use Rattle.expander_scope.specs.Outcomes.{find_of, parts_of}

@@ -163,7 +163,7 @@ module _ (dialect : Dialect) (world : World Numbered) (scope : List ℕ → Opti
     pub goes_leaf : (l : Leaf) → IsPlainAhead dialect p → IsNoCall p → p.here ≡ leaf l after.trees.here → groups_of after.trees ≡ groups_of before.trees
         → after.begun ≡ after_leaf before.begun l → after.standing ≡ before.standing → after.levels ≡ before.levels → new.locals ≡ old.locals
         → new.left ≡ old.left → Adds Has old.out new.out (just outer (if is_dropped before.begun l then [] else at_leaf l ∷ [])) → Goes dialect world scope levels outer p.outside edition Has (whole_left p) old new before after
-    goes_leaf l plain none is groups begun standing levels locals left adds = record {
+    goes_leaf l plain none is groups begun standing stack locals left adds = record {
       next = behind_leaf p l after.trees.here;
       at = record {
         here = refl;
@@ -171,7 +171,7 @@ module _ (dialect : Dialect) (world : World Numbered) (scope : List ℕ → Opti
         standing = standing ∙ at.standing;
         locals = ap locals_of locals ∙ at.locals;
         groups = groups ∙ at.groups;
-        levels = ap (λ (v : _). reverse v.items) levels ∙ at.levels;
+        levels = ap (λ (v : _). reverse v.items) stack ∙ at.levels;
         nested = at.nested;
       };
       outcome = leaf_of p l;
@@ -179,7 +179,7 @@ module _ (dialect : Dialect) (world : World Numbered) (scope : List ℕ → Opti
       adds = subst (λ s. Adds Has old.out new.out (just outer (if is_dropped s l then [] else at_leaf l ∷ []))) at.begun adds;
       spends = spends_same old.left new.left left;
       read = subst (AreReadIn edition) (sym locals);
-      outside = refl;
+      outside_is = refl;
       less = omega (arith, ap size (at.here ∙ is), ap steps_in groups);
     }
 
@@ -190,7 +190,7 @@ module _ (dialect : Dialect) (world : World Numbered) (scope : List ℕ → Opti
         → after.levels.items ≡ before.levels.items ++ record { begun = after_group before.begun d.kind; standing = before.standing; locals = length (locals_of old.locals) } ∷ []
         → after.begun ≡ Nothing → after.standing ≡ inside → new.locals ≡ old.locals → new.left ≡ old.left
         → Adds Has old.out new.out (just outer (opens d.kind d.open_span ∷ [])) → Goes dialect world scope levels outer p.outside edition Has from old new before after
-    goes_in from inside d rest is from_is groups levels begun standing locals left adds = record {
+    goes_in from inside d rest is from_is groups stack begun standing locals left adds = record {
       next = in_it p inside d after.trees.here rest;
       at = record {
         here = refl;
@@ -198,7 +198,7 @@ module _ (dialect : Dialect) (world : World Numbered) (scope : List ℕ → Opti
         standing = standing;
         locals = ap locals_of locals ∙ at.locals;
         groups = groups ∙ ap (λ gs. record { kind = d.kind; close_span = d.close_span; behind = rest } ∷ gs) at.groups;
-        levels = ap reverse levels ∙ reverse-append before.levels.items _
+        levels = ap reverse stack ∙ reverse-append before.levels.items _
             ∙ (λ i. record { begun = after_group (at.begun i) d.kind; standing = at.standing i; locals = length (at.locals i) } ∷ at.levels i);
         nested = (([], refl), at.nested);
       };
@@ -207,7 +207,7 @@ module _ (dialect : Dialect) (world : World Numbered) (scope : List ℕ → Opti
       adds = adds;
       spends = spends_same old.left new.left left;
       read = subst (AreReadIn edition) (sym locals);
-      outside = refl;
+      outside_is = refl;
       less = omega (arith, ap size (at.here ∙ is), ap steps_in groups);
     }
 
@@ -216,7 +216,7 @@ module _ (dialect : Dialect) (world : World Numbered) (scope : List ℕ → Opti
         → reverse after.levels.items ≡ map level_of gs → after.begun ≡ g.begun → after.standing ≡ g.standing
         → locals_of new.locals ≡ let_out g.kind g.locals p.locals → (AreReadIn edition old.locals → AreReadIn edition new.locals) → new.left ≡ old.left
         → Adds Has old.out new.out (just outer (closes g.kind g.close_span ∷ [])) → Goes dialect world scope levels outer p.outside edition Has (whole_left p) old new before after
-    goes_out g gs at_end is here groups levels begun standing locals read left adds = record {
+    goes_out g gs at_end is here groups stack begun standing locals read left adds = record {
       next = out_of_it p g gs;
       at = record {
         here = here;
@@ -224,7 +224,7 @@ module _ (dialect : Dialect) (world : World Numbered) (scope : List ℕ → Opti
         standing = standing;
         locals = locals;
         groups = groups;
-        levels = levels;
+        levels = stack;
         nested = nested_out p.outside g.kind p.locals g gs (subst (AreNested p.outside p.locals) is at.nested);
       };
       outcome = just outer (closes g.kind g.close_span ∷ []);
@@ -232,7 +232,7 @@ module _ (dialect : Dialect) (world : World Numbered) (scope : List ℕ → Opti
       adds = adds;
       spends = spends_same old.left new.left left;
       read = read;
-      outside = refl;
+      outside_is = refl;
       less = omega (arith, ap size (at.here ∙ at_end), ap size here, ap steps_in groups, ap steps_in (at.groups ∙ ap (map around_of) is));
     }
 
@@ -240,7 +240,7 @@ module _ (dialect : Dialect) (world : World Numbered) (scope : List ℕ → Opti
     pub goes_past : (rest : Forest) → p.begun ≡ Nothing → IsOutAhead dialect.cfg p.standing p.here (Some rest)
         → after.trees.here ≡ rest → groups_of after.trees ≡ groups_of before.trees → after.begun ≡ before.begun → after.standing ≡ before.standing
         → after.levels ≡ before.levels → new ≡ old → Goes dialect world scope levels outer p.outside edition Has (whole_left p) old new before after
-    goes_past rest nothing out here groups begun standing levels same = record {
+    goes_past rest nothing out here groups begun standing stack same = record {
       next = record p { here = rest };
       at = record {
         here = here;
@@ -248,7 +248,7 @@ module _ (dialect : Dialect) (world : World Numbered) (scope : List ℕ → Opti
         standing = standing ∙ at.standing;
         locals = ap (λ (s : Search S). locals_of s.locals) same ∙ at.locals;
         groups = groups ∙ at.groups;
-        levels = ap (λ (v : _). reverse v.items) levels ∙ at.levels;
+        levels = ap (λ (v : _). reverse v.items) stack ∙ at.levels;
         nested = at.nested;
       };
       outcome = just outer [];
@@ -256,7 +256,7 @@ module _ (dialect : Dialect) (world : World Numbered) (scope : List ℕ → Opti
       adds = subst (λ (s : Search S). Adds Has old.out s.out (just outer [])) (sym same) (adds_just Has old.out old.out outer [] (takes_none Has old.out.output) refl refl);
       spends = spends_same old.left new.left (ap (λ (s : Search S). s.left) same);
       read = subst (λ (s : Search S). AreReadIn edition old.locals → AreReadIn edition s.locals) (sym same) (λ r. r);
-      outside = refl;
+      outside_is = refl;
       less = omega (arith, ap size at.here, ap size here, ap steps_in groups, out.1.1.1);
     }
       where
@@ -287,7 +287,7 @@ module _ (dialect : Dialect) (world : World Numbered) (scope : List ℕ → Opti
         → after.levels ≡ before.levels → locals_of new.locals ≡ d ∷ locals_of old.locals → (AreReadIn edition old.locals → AreReadIn edition new.locals) → new.left ≡ old.left
         → Adds Has old.out new.out (defined dialect (noted_world world) noted_local (noted_scope scope) (here_in dialect world scope levels outer p.standing p.locals) d).outcome
         → Goes dialect world scope levels outer p.outside edition Has (whole_left p) old new before after
-    goes_on_behind d piece rest inside rust nothing ahead is here groups begun standing levels locals read left adds = record {
+    goes_on_behind d piece rest inside rust nothing ahead is here groups begun standing stack locals read left adds = record {
       next = record p { here = rest; locals = d ∷ p.locals };
       at = record {
         here = here;
@@ -295,7 +295,7 @@ module _ (dialect : Dialect) (world : World Numbered) (scope : List ℕ → Opti
         standing = standing ∙ at.standing;
         locals = locals ∙ ap (λ ls. d ∷ ls) at.locals;
         groups = groups ∙ at.groups;
-        levels = ap (λ (v : _). reverse v.items) levels ∙ at.levels;
+        levels = ap (λ (v : _). reverse v.items) stack ∙ at.levels;
         nested = nested_more p.outside (d ∷ []) p.locals p.groups at.nested;
       };
       outcome = (defined dialect (noted_world world) noted_local (noted_scope scope) (here_in dialect world scope levels outer p.standing p.locals) d).outcome;
@@ -303,7 +303,7 @@ module _ (dialect : Dialect) (world : World Numbered) (scope : List ℕ → Opti
       adds = adds;
       spends = subst (Spends old.left new.left) (sym (defined_finds (world.broken (unnumbered d)))) (spends_same old.left new.left left);
       read = read;
-      outside = refl;
+      outside_is = refl;
       less = omega (arith, ap size at.here, ap size here, ap steps_in groups, ahead.1.1);
     }
       where
@@ -351,9 +351,9 @@ module _ (dialect : Dialect) (world : World Numbered) (scope : List ℕ → Opti
         → after.begun ≡ after_leaf before.begun (leaf_lent l) → after.standing ≡ before.standing → after.levels ≡ before.levels → new.locals ≡ old.locals
         → new.left ≡ old.left → Adds Has old.out new.out (just outer (if is_dropped before.begun (leaf_lent l) then [] else step_of (as_step.Leaf l) ∷ []))
         → Goes dialect world scope levels outer p.outside edition Has (left_ahead dialect world scope levels outer b p) old new before after
-    passes_leaf true begins l e begun standing levels locals left adds = absurd (no_group p.here (leaf_lent l) after.trees.here begins (sym at.here ∙ e.0))
-    passes_leaf false pass l e begun standing levels locals left adds =
-        goes_leaf (leaf_lent l) pass.0 pass.1 (sym at.here ∙ e.0) e.1 begun standing levels locals left adds
+    passes_leaf true begins l e begun standing stack locals left adds = absurd (no_group p.here (leaf_lent l) after.trees.here begins (sym at.here ∙ e.0))
+    passes_leaf false pass l e begun standing stack locals left adds =
+        goes_leaf (leaf_lent l) pass.0 pass.1 (sym at.here ∙ e.0) e.1 begun standing stack locals left adds
 
     entered_from : (b : Bool) → IsPassable dialect b p → (d : Delimiter) (inner rest : Forest) → p.here ≡ group d inner rest
         → left_ahead dialect world scope levels outer b p ≡ then_left (just outer (opens d.kind d.open_span ∷ [])) (whole_left (in_it p (if b then Argument else in_group p.begun d.kind p.standing) d inner rest))
@@ -364,14 +364,14 @@ module _ (dialect : Dialect) (world : World Numbered) (scope : List ℕ → Opti
         → after.levels.items ≡ before.levels.items ++ record { begun = after_group before.begun kind; standing = before.standing; locals = n } ∷ []
         → after.begun ≡ Nothing → after.standing ≡ (if b then Argument else in_group before.begun kind before.standing) → new.locals ≡ old.locals → new.left ≡ old.left
         → Adds Has old.out new.out (just outer (opens kind span ∷ [])) → Goes dialect world scope levels outer p.outside edition Has (left_ahead dialect world scope levels outer b p) old new before after
-    passes_in b pass kind span mid e trees n counted levels begun standing locals left adds =
+    passes_in b pass kind span mid e trees n counted stack begun standing locals left adds =
         let d : Delimiter = e.brackets in
         let here : after.trees.here ≡ mid.here = ap (λ (t : TreeWalk). t.here) trees in
         let is : p.here ≡ group d after.trees.here e.behind = sym at.here ∙ e.first ∙ ap (λ f. group d f e.behind) (sym here) in
         goes_in (left_ahead dialect world scope levels outer b p) (if b then Argument else in_group p.begun d.kind p.standing) d e.behind is
         (entered_from b pass d after.trees.here e.behind is)
         (ap groups_of trees ∙ e.groups ∙ ap (λ k. record { kind = k; close_span = d.close_span; behind = e.behind } ∷ groups_of before.trees) (sym e.kind_is))
-        (levels ∙ (λ i. before.levels.items ++ record { begun = after_group before.begun (sym e.kind_is i); standing = before.standing; locals = counted i } ∷ []))
+        (stack ∙ (λ i. before.levels.items ++ record { begun = after_group before.begun (sym e.kind_is i); standing = before.standing; locals = counted i } ∷ []))
         begun
         (standing ∙ (λ i. if b then Argument else in_group (at.begun i) (sym e.kind_is i) (at.standing i)))
         locals left
@@ -425,7 +425,7 @@ module _ (dialect : Dialect) (world : World Numbered) (scope : List ℕ → Opti
       adds = adds_more Has old.out mid.out new.out (just outer (walk beginning)) g.outcome adds g.adds;
       spends = subst (λ l. Spends l new.left g.outcome.finds) left g.spends;
       read = λ r. g.read (subst (AreReadIn edition) (sym locals) r);
-      outside = g.outside;
+      outside_is = g.outside_is;
       less = omega (arith, less, g.less);
     }
 
@@ -442,7 +442,7 @@ module _ (dialect : Dialect) (world : World Numbered) (scope : List ℕ → Opti
       adds = more g.outcome g.adds;
       spends = spends_more old.left mid.left new.left xs g.outcome.finds spends g.spends;
       read = λ r. g.read (subst (AreReadIn edition) (sym locals) r);
-      outside = g.outside;
+      outside_is = g.outside_is;
       less = g.less;
     }
 
@@ -546,7 +546,7 @@ module _ (dialect : Dialect) (world : World Numbered) (scope : List ℕ → Opti
             spends = spends_more old.left mid.left new.left xs (is.notes ++ []) looked_spends
                 (spends_more mid.left mid.left new.left is.notes [] (is.free mid.left) (spends_same mid.left new.left left));
             read = subst (AreReadIn edition) (sym (locals ∙ same_locals));
-            outside = refl;
+            outside_is = refl;
             less = behind_less false after b;
           }
 
@@ -607,7 +607,7 @@ module _ (dialect : Dialect) (world : World Numbered) (scope : List ℕ → Opti
             adds = looked_first new m.outcome (adds_made levels.limits d g new a all.adds);
             spends = spends_more old.left mid.left new.left xs m.outcome.finds looked_spends (spends_made levels.limits d g new a (apart_mid levels.limits apart) all.spends);
             read = λ old_read. read;
-            outside = refl;
+            outside_is = refl;
             less = behind_less alone after b;
           }
 
@@ -631,7 +631,7 @@ module _ (dialect : Dialect) (world : World Numbered) (scope : List ℕ → Opti
             adds = looked_first new (followed_by (looks more) o) (kept_large is.much);
             spends = spends_large levels.limits (xs ++ (more ++ [])) apart by_limits;
             read = λ old_read. subst (AreReadIn edition) (sym locals) read;
-            outside = refl;
+            outside_is = refl;
             less = behind_less false after b;
           }
         where
@@ -756,7 +756,7 @@ module _ (dialect : Dialect) (world : World Numbered) (scope : List ℕ → Opti
         adds = t.adds;
         spends = t.spends;
         read = t.read;
-        outside = t.outside;
+        outside_is = t.outside_is;
         less = t.less;
       }
 
@@ -797,7 +797,7 @@ module _ (dialect : Dialect) (world : World Numbered) (scope : List ℕ → Opti
       is = g.is ∙ ap (then_left g.done) t.is ∙ sym (then_assoc g.done t.outcome (whole_left t.next));
       adds = adds_more Has first.out old.out new.out g.done t.outcome g.adds t.adds;
       spends = spends_more first.left old.left new.left g.done.finds t.outcome.finds g.spends t.spends;
-      outside = t.outside ∙ g.outside;
+      outside = t.outside_is ∙ g.outside;
       read = t.read g.read;
     }
 

@@ -1,14 +1,19 @@
 -- What comes of a call is taken back where it makes too much.
 use Rattle.std.proofs.Common.{◌≡◌, ℕ, List, [], ◌∷◌, ◌++◌, length, take, zero, suc, refl, sym, ap, subst, ◌∙◌, append-nil, Bool, true, false}
-use Rattle.std.specs.Prelude.{Result, Ok, Err, IfOk, Option, Some, None, map}
+use Rattle.std.specs.Prelude.{Result, Ok, Err, IfOk, Option, Some, None, map, option_map}
 use Rattle.expander_model.specs.Definitions.{Definition}
-use Rattle.expander_model.specs.Expansion.{PlacedStep}
+use Rattle.expander_model.specs.Expansion.{Outcome, PlacedStep}
 use Rattle.expander_model.specs.Held.{Numbered}
-use Rattle.expander_model.specs.Limits.{Notes}
+use Rattle.expander_model.specs.Limits.{Noted, Notes, passed_at_once}
+use Rattle.expander_model.specs.Scoping.{Scoped}
 use Rattle.expander_model.specs.declared.limits.Limits.{Limits}
 use Rattle.expander_scope.specs.LocalTables.{locals_of}
 use Rattle.expander_scope.specs.Outcomes.{find_of}
-use Rattle.expander_scope.specs.Spending.{Stops, TakesBack}
+use Rattle.expander_scope.specs.Spending.{BurstsFirst, BurstsIn, Searched, Spends, Stops, TakesBack, left_behind, sized}
+use Rattle.expander_scope.specs.Expanding.{Adds}
+use Rattle.expander_scope.specs.Sinks.{TakesMore}
+use Rattle.expander_scope.specs.declared.expand.Expanding.{Expanding}
+use Rattle.expander_scope.proofs.SpendingLemmas.{behind_notes, bursts_more, passed_here, passing_more, spends_more}
 use Rattle.expander_scope.specs.declared.expand.Search.{Search}
 
 pub take-front : {X : Type 0} (xs ys : List X) → take (length xs) (xs ++ ys) ≡ xs
@@ -51,3 +56,43 @@ module _ {S : Type 0} (Has : S → List PlacedStep → Type 0) where
     locals = locals st.front (locals_of old.locals) st.locals (sym around_is);
     left = left;
   }
+
+  -- ---- what a call gives counts
+
+  -- it passes a limit at once
+  pub stops_at_once : (old new : Search S) (n : ℕ) (ys : Notes Numbered) → left_behind old.left (sized n) ≡ None → new.out ≡ old.out → new.locals ≡ old.locals → Stops Has old new (sized n ++ ys)
+  stops_at_once old new n ys over out locals = record {
+    passed = passed_at_once;
+    is = passed_here old.left n ys over;
+    finds = ap (λ (e : Expanding S). map find_of e.finds.items) out ∙ sym (append-nil (map find_of old.out.finds.items));
+    steps = [];
+    takes = λ before has. subst (Has new.out.output) (sym (append-nil before)) (subst (λ (e : Expanding S). Has e.output before) (sym out) has);
+    told = [];
+    faults = ap (λ (e : Expanding S). e.faults.items) out ∙ sym (append-nil old.out.faults.items);
+    front = [];
+    locals = ap locals_of locals;
+  }
+
+  module _ (old mid new : Search S) (n : ℕ) (counted : Spends old.left mid.left (sized n)) (out : mid.out ≡ old.out) (locals : mid.locals ≡ old.locals) where
+    pub searched_more : (a : Scoped (Noted Numbered)) → Searched Has mid new a a.outcome.finds → Searched Has old new a (sized n ++ a.outcome.finds)
+    searched_more a all = record {
+      adds = subst (λ (e : Expanding S). Adds Has e new.out a.outcome) out all.adds;
+      locals = all.locals ∙ ap (λ l. a.defines ++ locals_of l) locals;
+      spends = spends_more old.left mid.left new.left (sized n) a.outcome.finds counted all.spends;
+    }
+
+    pub stops_more : (ys : Notes Numbered) → Stops Has mid new ys → Stops Has old new (sized n ++ ys)
+    stops_more ys st = record {
+      passed = st.passed;
+      is = passing_more old.left mid.left (sized n) ys counted ∙ ap (option_map (behind_notes (sized n))) st.is;
+      finds = st.finds ∙ ap (λ (e : Expanding S). map find_of e.finds.items ++ st.passed.finds) out;
+      steps = st.steps;
+      takes = subst (λ (e : Expanding S). TakesMore Has e.output new.out.output st.steps) out st.takes;
+      told = st.told;
+      faults = st.faults ∙ ap (λ (e : Expanding S). e.faults.items ++ st.told) out;
+      front = st.front;
+      locals = st.locals ∙ ap (λ l. st.front ++ locals_of l) locals;
+    }
+
+    pub bursts_in_more : (a : Outcome (Noted Numbered)) → BurstsIn mid.left a → (a.bursts ≡ true) × BurstsFirst old.left (sized n ++ a.finds)
+    bursts_in_more a much = (much.0, bursts_more old.left mid.left (sized n) a.finds counted much.1)

@@ -13,9 +13,6 @@ use Rattle.expander_scope.specs.Spending.{BurstsFirst, Spends, is_passed, left_b
 
 -- ---- what is left
 
-none_is_left : {l : Limits} {b : Option Limits} {X : Type 0} → option_map Some (None {A = Limits}) ≡ Some b → X
-none_is_left e = absurd (cc e)
-
 not_passed : (c : Bool) (o : Option Limits) (b : Option Limits) → option_map Some (if c then None else o) ≡ Some b → (c ≡ false) × (option_map Some o ≡ Some b)
 not_passed true o b e = absurd (cc e)
 not_passed false o b e = (refl, e)
@@ -144,7 +141,7 @@ pub passing_before : (a : Option Limits) (xs ys : Notes Numbered) (p : Passed Nu
 passing_before None xs ys p e = absurd (cc e)
 passing_before (Some l) xs ys p e = until_before l.calls l.tokens xs ys p e
 
-gone_at : (c : Bool) (l : Limits) (o : Option (Passed Numbered)) → option_map (Some {A = Limits}) (if c then None else Some l) ≡ None → (if c then Some passed_at_once else o) ≡ Some (passed_at_once {D = Numbered})
+gone_at : (c : Bool) (l : Limits) (o : Option (Passed Numbered)) → ◌≡◌ {A = Option (Option Limits)} (option_map Some (if c then None else Some l)) None → (if c then Some passed_at_once else o) ≡ Some passed_at_once
 gone_at true l o e = refl
 gone_at false l o e = absurd (cc e)
 
@@ -229,3 +226,8 @@ limits_outside dialect (Some at) e = absurd (cc e)
 pub no_limits : (o : Option Limits) → is_some o ≡ false → o ≡ None
 no_limits None e = refl
 no_limits (Some l) e = absurd (cc e)
+
+-- where a limit is passed there is one
+pub limited_by : (l : Option Limits) (ys : Notes Numbered) (p : Passed Numbered) → passing l ys ≡ Some p → is_some l ≡ true
+limited_by None ys p e = absurd (cc e)
+limited_by (Some l) ys p e = refl

@@ -187,7 +187,7 @@ module _ (dialect : Dialect) (world : World Numbered) (scope : List ℕ → Opti
     pub adds : Adds Has old.out new.out outcome
     pub spends : Spends old.left new.left outcome.finds
     pub read : AreReadIn edition old.locals → AreReadIn edition new.locals
-    pub outside : next.outside ≡ outside
+    pub outside_is : next.outside ≡ outside
     pub less : turns_left after < turns_left before
 
 -- the same by this grammar and dialect, in the scope of this table

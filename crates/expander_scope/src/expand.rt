@@ -13,7 +13,7 @@ ghost use Rattle.tt_data.specs.fault.TtFault.TheVariants.{Memory};
 ghost use Rattle.expander_model.specs.Calls.{marked};
 ghost use Rattle.expander_model.specs.CallSteps.{call_at};
 ghost use Rattle.expander_model.specs.Definitions.{Definition, definition_of};
-ghost use Rattle.expander_model.specs.Expansion.{Deeper, World, faulted, just, placed, search_calls};
+ghost use Rattle.expander_model.specs.Expansion.{Deeper, PlacedStep, World, just, placed, search_calls};
 ghost use Rattle.expander_model.specs.Held.{Numbered, numbered_world, unnumbered};
 ghost use Rattle.expander_model.specs.Scoping.{is_left_out};
 ghost use Rattle.expander_model.specs.World.{fit_of, made, world};
@@ -21,7 +21,7 @@ ghost use Rattle.textual_scope.specs.Keywords.{HasNoKeyword};
 ghost use Rattle.expander_scope.specs.Editions.{IsRead};
 ghost use Rattle.expander_scope.specs.Expanding.{Adds, Expands, Levels, answer, defined_under};
 ghost use Rattle.expander_scope.specs.Expanding.{limits_at, list_under, makes_too_many};
-ghost use Rattle.expander_scope.specs.Expanding.{result_under, trees_of, world_under};
+ghost use Rattle.expander_scope.specs.Expanding.{result_under, stays_for, trees_of, world_under};
 ghost use Rattle.expander_scope.specs.Spending.{BurstsFirst, BurstsIn, Searched, Spends, Stops};
 ghost use Rattle.expander_scope.specs.Spending.{TakesBack, left_behind, notes_with, passing, sized};
 ghost use Rattle.expander_model.specs.declared.scope_rules.Standing.TheVariants.{Argument};
@@ -573,8 +573,8 @@ fn begun_behind(gone: bool, begun: Begun, from_group: &TtIter<'_>) -> Begun
 // Goes on behind a call that was replaced.
 fn pass_call<'a>(dialect: &Dialect, walk: &mut ListWalk<'a>, call: Call<'a>)
     ensures { GoesBehind
-        (is_alone_at dialect.now walk.old.begun walk.old.standing call.from_group)
-        call walk.old walk.new }
+        (is_alone_at dialect.now walk.old.begun walk.old.standing call.entry.from_group)
+        call.entry walk.old walk.new }
 {
     let alone = is_alone_at(dialect, walk.begun, walk.standing, &call.from_group);
     walk.begun = begun_behind(alone, walk.begun, &call.from_group);
@@ -591,10 +591,10 @@ fn stay<'a, S: EventSink>(
     told: (FaultKind, Span),
 ) -> Result<(), AllocError>
     requires call { call_at walk.old.trees.here ≡ Some call }
-    ensures adds { (passed : Forest) → walk.old.trees.here ≡ joined passed call.rest →
+    ensures adds { (passed : Forest) → walk.old.trees.here ≡ joined passed call.entry.rest →
         OnOk result (Adds S.has_taken search.old.out search.new.out
-        (faulted told.0 told.1 (just outer (walk passed)))) }
-    ensures behind { OnOk result (GoesBehind false call walk.old walk.new) }
+        (stays_for told outer passed)) }
+    ensures behind { OnOk result (GoesBehind false call.entry walk.old walk.new) }
     ensures locals { search.new.locals ≡ search.old.locals }
     ensures left { search.new.left ≡ search.old.left }
 {
@@ -726,7 +726,8 @@ fn expand_call<'a, G: FragmentGrammar, S: EventSink>(
         Stops S.has_taken search.old search.new
         (left_under (G.answer env.now.grammar.now) env.now.scope.now env.now.dialect.now
         env.now.depth outer p).0.finds) }
-    ensures read { OnOk result (AreReadIn env.now.scope.now.edition search.new.locals) }
+    ensures read { IfOk result (λ more. more ≡ false →
+        AreReadIn env.now.scope.now.edition search.new.locals) }
     ensures tokens { result ≡ Err TtFault.Tokens → (p : Place) →
         IsAt walk.old search.old.locals p → IsPlainAhead env.now.dialect.now p →
         BurstsIn search.old.left
@@ -749,10 +750,13 @@ fn expand_call<'a, G: FragmentGrammar, S: EventSink>(
             }
             let told = (FaultKind::TooLarge, at);
             stay(env.alloc, outer, search, walk, call, told)?;
+            Ok(true)
         }
-        Err(kind) => stay(env.alloc, outer, search, walk, call, (kind, at))?,
+        Err(kind) => {
+            stay(env.alloc, outer, search, walk, call, (kind, at))?;
+            Ok(true)
+        }
     }
-    Ok(true)
 }
 
 // Searches a list for calls and definitions, and the lists in its groups. Each event gets `outer`,
