@@ -12,7 +12,6 @@ use Rattle.expander_model.specs.Definitions.{Definition, nearest}
 use Rattle.cfg_options.specs.Conditions.{or_else}
 use Rattle.expander_model.specs.Expansion.{World, Outcome, CallSite, PlacedStep, faulted, placed, just, followed_by, bursting, stays, before_group, whole_call}
 use Rattle.expander_model.specs.Held.{Numbered, unnumbered}
-use Rattle.expander_model.specs.Dialects.{top_level}
 use Rattle.expander_model.specs.PieceStates.{after_call}
 use Rattle.expander_model.specs.Scoping.{Around, Attempt, Scoped, Expander, at_call, at_key, fitted, found_at, in_brackets, is_alone_in, is_replaced, kept_call, looked_up, only, scoped, unbroken, without_locals}
 use Rattle.expander_model.specs.Limits.{expanded, outermost, Noted, Notes, Passed, definition, limited, looked_in, note_of, noted, noted_world, unnoted, until_passed, within}
@@ -23,8 +22,7 @@ use Rattle.expander_model.specs.declared.call.Call.{Call}
 use Rattle.expander_model.specs.declared.scope_rules.Standing.TheVariants.{Argument, Top}
 use Rattle.expander_model.specs.declared.fault.FaultKind.{FaultKind}
 use Rattle.expander_model.specs.declared.fault.FaultKind.TheVariants.{CannotExpand, BrokenDefinition, RecursionLimit, TooLarge}
-use Rattle.expander_model.specs.Changes.{find_with}
-use Rattle.textual_scope.proofs.NoteLemmas.{SameDeeper, SameFrom, looked_in-append, unnoted-list, unnoted-noted, without_notes}
+use Rattle.textual_scope.proofs.NoteLemmas.{SameFrom, looked_in-append, unnoted-list, unnoted-noted}
 use Rattle.expander_scope.specs.Expanding.{Levels, Adds, Expands, among_notes, answer, answer_at, as_noted, deeper_at, expander_by, makes_too_many, noted_by, noted_local, noted_scope, searched}
 use Rattle.expander_scope.specs.Spending.{BurstsFirst, Spends, notes_with, passing}
 use Rattle.expander_scope.specs.ListsLeft.{IsAhead, IsOutAhead, Left, Place, all_left, groups_left, in_list, list_left, then_left}

@@ -1,6 +1,6 @@
 -- How a search of lists goes on, event by event and turn by turn.
 use Rattle.std.proofs.Common.{◌≡◌, ℕ, suc, ◌<◌, ◌+◌, ◌*◌, List, [], ◌∷◌, ◌++◌, refl, sym, ap, subst, ◌∙◌, append_assoc, append-nil, arith, Bool, true, false, if◌then◌else◌}
-use Rattle.std.specs.Prelude.{map, length, reverse, Option, Some, None, Ok, Err, OnOk, Result, is_some, option_map, unwrap_or, ◌-◌}
+use Rattle.std.specs.Prelude.{map, length, reverse, Option, Some, None, Ok, Err, OnOk, Result, is_some, option_map, unwrap_or}
 use Rattle.std.proofs.lemmas.List.{reverse-append}
 use Rattle.tt_data.specs.Forest.{Forest, empty, leaf, group, joined, size}
 use Rattle.tt_data.proofs.ForestLemmas.{size-joined}
@@ -38,10 +38,10 @@ use Rattle.expander_model.specs.declared.scope_rules.ScopeRules.TheVariants.{Top
 use Rattle.expander_model.specs.declared.scope_rules.Standing.{Standing}
 use Rattle.expander_model.specs.declared.scope_rules.Standing.TheVariants.{Argument}
 use Rattle.expander_model.specs.declared.tree_walk.Around.{Around}
-use Rattle.expander_model.specs.Limits.{Noted, Notes, Passed, looked_in, note_of, noted_world, unnoted}
+use Rattle.expander_model.specs.Limits.{Noted, Notes, looked_in, note_of, noted_world}
 use Rattle.expander_model.specs.declared.limits.Limits.{Limits}
 use Rattle.expander_scope.specs.Expanding.{Adds, Levels, among_notes, answer, deeper_at, levels_in, makes_too_many, noted_local, noted_scope, searched}
-use Rattle.expander_scope.specs.Spending.{BurstsFirst, BurstsIn, Searched, Spends, Stops, TakesBack, notes_with, passing, sized}
+use Rattle.expander_scope.specs.Spending.{BurstsFirst, BurstsIn, Searched, Spends, Stops, TakesBack, notes_with, passing}
 use Rattle.expander_scope.specs.ListsLeft.{IsAhead, IsOutAhead, Left, Open, Place, all_left, groups_left, in_list, let_out, list_left, then_left}
 use Rattle.expander_scope.specs.Leaving.{Leaves}
 use Rattle.expander_scope.specs.LocalTables.{AreReadIn, locals_of}
@@ -51,11 +51,11 @@ use Rattle.expander_scope.specs.declared.list_walk.Level.{Level}
 use Rattle.expander_scope.specs.declared.list_walk.ListWalk.{ListWalk}
 use Rattle.expander_scope.specs.declared.locals.Locals.{Locals}
 use Rattle.expander_scope.proofs.CallLemmas.{no_call}
-use Rattle.expander_scope.proofs.CallResultLemmas.{lookups_among, no_lookups, takes, colons_left, adds_just, adds_looks, adds_more, adds_notes, answer_bursts, answer_first, behind_call, comes_left, deeper, finds_left, given_of, large_here, large_left, looked_among, looks, made_here, made_of, outcome_here, result_bursts, result_finds, site_of, stands_alone, stays_here, stays_left, unknown_left}
+use Rattle.expander_scope.proofs.CallResultLemmas.{lookups_among, no_lookups, takes, colons_left, adds_just, adds_looks, adds_more, adds_notes, answer_bursts, answer_first, behind_call, comes_left, finds_left, given_of, large_here, large_left, looked_among, looks, made_of, outcome_here, result_bursts, result_finds, site_of, stands_alone, stays_here, stays_left, unknown_left}
 use Rattle.expander_scope.proofs.ListLemmas.{entered_in, here_in, left_at_beginning, left_at_end, left_group, left_leaf, opened, passed_in, then_assoc}
 use Rattle.expander_scope.proofs.OutcomeLemmas.{or_later}
 use Rattle.expander_scope.proofs.SinkLemmas.{takes_none, takes_both}
-use Rattle.expander_scope.proofs.SpendingLemmas.{IsApart, behind_notes, bursts_before, bursts_more, bursts_none, bursts_note, none_passed, passing_before, passing_more, passing_note, spends_looks, spends_more, spends_note, spends_nothing, spends_same}
+use Rattle.expander_scope.proofs.SpendingLemmas.{IsApart, behind_notes, bursts_before, bursts_more, bursts_none, bursts_note, passing_before, passing_more, passing_note, spends_looks, spends_more, spends_note, spends_nothing, spends_same}
 use Rattle.expander_scope.proofs.TurnLemmas.{IsCall, call_is_call, colons_is_call, neither, rest_smaller}
 use Rattle.textual_scope.proofs.LeftLemmas.{at_definition, at_out}
 use Rattle.textual_scope.proofs.ResultLemmas.{followed_by_nothing, nothing_and}

@@ -1,6 +1,6 @@
 -- What comes of a call is taken back where it makes too much.
-use Rattle.std.proofs.Common.{◌≡◌, ℕ, List, [], ◌∷◌, ◌++◌, length, take, zero, suc, refl, sym, ap, subst, ◌∙◌, append-nil, Bool, true, false}
-use Rattle.std.specs.Prelude.{Result, Ok, Err, IfOk, Option, Some, None, map, option_map}
+use Rattle.std.proofs.Common.{◌≡◌, ℕ, List, [], ◌∷◌, ◌++◌, length, take, zero, suc, refl, sym, ap, subst, ◌∙◌, append-nil, true}
+use Rattle.std.specs.Prelude.{Result, Ok, Err, IfOk, Option, None, map, option_map}
 use Rattle.expander_model.specs.Definitions.{Definition}
 use Rattle.expander_model.specs.Expansion.{Outcome, PlacedStep}
 use Rattle.expander_model.specs.Held.{Numbered}

@@ -1,10 +1,9 @@
 -- What is left of limits behind notes, and where one is passed among them.
 use Rattle.std.proofs.Common.{◌≡◌, ℕ, ◌-◌, List, [], ◌∷◌, ◌++◌, refl, sym, ap, subst, ◌∙◌, append_assoc, append-nil, Bool, true, false, if◌then◌else◌}
-use Rattle.std.specs.Prelude.{Option, Some, None, is_some, option_map, ◌||◌, map}
+use Rattle.std.specs.Prelude.{Option, Some, None, is_some, option_map, ◌||◌}
 use Rattle.tt_data.specs.Forest.{Forest, size}
-use Rattle.expander_model.specs.Expansion.{Outcome}
 use Rattle.expander_model.specs.Held.{Numbered}
-use Rattle.expander_model.specs.Limits.{Noted, Notes, Passed, burst, definition, result, looked_in, note_of, passed_at_once, burst_before, found_before, until_passed}
+use Rattle.expander_model.specs.Limits.{Notes, Passed, burst, definition, result, looked_in, note_of, passed_at_once, burst_before, found_before, until_passed}
 use Rattle.expander_model.specs.declared.limits.Limits.{Limits}
 use Rattle.tt_data.specs.declared.span.Span.{Span}
 use Rattle.expander_model.specs.declared.dialect.Dialect.{Dialect}

@@ -1,4 +1,4 @@
-use Rattle.std.proofs.Common.{◌≡◌, ◌-◌, ◌++◌, ◌∙◌, ap, refl, rules, subst, sym, true, false}
+use Rattle.std.proofs.Common.{◌≡◌, ◌-◌, ◌∙◌, ap, refl, rules, subst, sym, true, false}
 use Rattle.tt_data.specs.Forest.{leaf, size}
 use Rattle.tt_data.specs.Lent.{leaf_lent}
 use Rattle.expander_model.specs.Definitions.{definition_of}
@@ -7,7 +7,7 @@ use Rattle.expander_model.specs.Held.{numbered_world}
 use Rattle.expander_model.specs.World.{world}
 use Rattle.expander_scope.specs.Expanding.{Adds, answer, defined_under, levels_at, limits_at, list_under, result_under, world_under}
 use Rattle.expander_scope.specs.ListsLeft.{IsAhead}
-use Rattle.expander_scope.specs.LocalTables.{AreReadIn, locals_of}
+use Rattle.expander_scope.specs.LocalTables.{AreReadIn}
 use Rattle.expander_scope.specs.Spending.{BurstsIn, Searched, Spends, Stops, left_behind, notes_with, passing, sized}
 use Rattle.expander_scope.specs.Turns.{shown_of}
 use Rattle.expander_scope.specs.declared.expand.Search.{Search}
@@ -18,7 +18,7 @@ use Rattle.expander_scope.proofs.GoesLemmas.{at_mid, goes_past, out_at, goes_com
 use Rattle.expander_scope.proofs.HandedLemmas.{handed}
 use Rattle.expander_scope.proofs.ReplaceLemmas.{bursts_in_more, ok_more, searched_more, stops_at_once, stops_more}
 use Rattle.expander_scope.proofs.SpendingLemmas.{apart_at, limited_by, none_inside, none_passed}
-use Rattle.expander_scope.proofs.TurnLemmas.{call_opened, call_passed, colons_opened}
+use Rattle.expander_scope.proofs.TurnLemmas.{call_opened, colons_opened}
 use Rattle.expander_scope.proofs.expand.+searching.Goals as goal
 
 pub expand_call-keep_call-requires : goal.expand_call-keep_call-requires
