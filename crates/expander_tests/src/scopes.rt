@@ -1,7 +1,7 @@
 //! Sessions by both rules of scopes: what they print, and what an edit makes them expand anew.
 use crate::opened::found;
 use cfg_options::CfgOptions;
-use expander::{Dialect, Edition, Expansion, ScopeRules, Session, SmallGrammar};
+use expander::{Dialect, Edition, Expansion, FaultKind, Limits, ScopeRules, Session, SmallGrammar};
 use std::alloc::Global;
 use std::test::Fail;
 
@@ -164,5 +164,112 @@ fn conditions_leave_out(rt: HostRuntime) -> Result<(), Fail> {
     assert!(rt; nowhere.printed() == "1\n" && nowhere.expanded() == 0);
     let there = expanded_with(&mut session, '1', "3")?;
     assert!(rt; there.printed() == "3\n" && there.expanded() == 1);
+    Ok(())
+}
+
+// How many calls one call may make, and how many tokens, and a text; what is printed, and how many
+// calls make too much.
+const LIMITED: [(usize, usize, &str, &str, usize); 7] = [
+    (
+        3,
+        9,
+        "macro_rules! m { () => { n!{} n!{} } } macro_rules! n { () => { 1 } } m!{} fn f() { m!{} }",
+        "1 1 fn f ( ) { 1 1 }\n",
+        0,
+    ),
+    (
+        2,
+        9,
+        "macro_rules! m { () => { n!{} n!{} } } macro_rules! n { () => { 1 } } m!{} n!{}",
+        "m ! { }\n1\n",
+        1,
+    ),
+    (
+        3,
+        7,
+        "macro_rules! m { () => { n!{} n!{} } } macro_rules! n { () => { 1 } } m!{} n!{}",
+        "m ! { }\n1\n",
+        1,
+    ),
+    (
+        1000,
+        100_000,
+        "macro_rules! w { () => { w!{} w!{} } } fn f() { w!(); 1 }",
+        "fn f ( ) { w ! ( ) ; 1 }\n",
+        1,
+    ),
+    (
+        1000,
+        100_000,
+        "macro_rules! d { ($x:tt) => { d!{ ($x $x) } } } d!{ a }",
+        "d ! { a }\n",
+        1,
+    ),
+    (
+        2,
+        100,
+        "macro_rules! d { () => { macro_rules! e { () => { 1 } } e!{} e!{} } } fn f() { d!{} e!{} }",
+        "fn f ( ) { d ! { } e ! { } }\n",
+        1,
+    ),
+    (
+        0,
+        100,
+        "macro_rules! m { () => { 1 } } mod a { m!(); }",
+        "mod a { m ! ( ) ; }\n",
+        1,
+    ),
+];
+
+// By the rules of Rust, with these limits, over a text that is short.
+fn limited(alloc: Global, text: &str, limits: Limits) -> Result<Session<SmallGrammar>, Fail> {
+    if text.len() >= 1000 {
+        return Err(Fail::new("a text is long"));
+    }
+    let mut dialect = Dialect::rust();
+    dialect.limits = Some(limits);
+    Ok(Session::with_dialect(
+        alloc,
+        text,
+        SmallGrammar,
+        Edition::Edition2024,
+        dialect,
+        128,
+    )?)
+}
+
+#[test]
+fn what_a_call_makes(rt: HostRuntime) -> Result<(), Fail> {
+    for (calls, tokens, text, want, faults) in &LIMITED {
+        let limits = Limits {
+            calls: *calls,
+            tokens: *tokens,
+        };
+        let given = found(&mut limited(rt.alloc(), text, limits)?)?;
+        assert!(rt; given.printed() == *want, "{text}: {}", given.printed());
+        assert!(rt; given.faults().len() == *faults, "{text}");
+        for fault in given.faults() {
+            assert!(rt; fault.kind == FaultKind::TooLarge, "{text}");
+        }
+    }
+    Ok(())
+}
+
+// Where a call makes too much its look-ups until then are kept: it is expanded anew once one of
+// them finds another definition.
+#[test]
+fn what_is_too_large(rt: HostRuntime) -> Result<(), Fail> {
+    let text = "macro_rules! m { () => { n!{} n!{} } } macro_rules! n { () => { 1 2 3 } } m!{} 5";
+    let limits = Limits {
+        calls: 9,
+        tokens: 11,
+    };
+    let mut session = limited(rt.alloc(), text, limits)?;
+    let first = found(&mut session)?;
+    assert!(rt; first.printed() == "m ! { }\n5\n" && first.faults().len() == 1);
+    let elsewhere = expanded_with(&mut session, '5', "6")?;
+    assert!(rt; elsewhere.printed() == "m ! { }\n6\n" && elsewhere.faults().len() == 1);
+    let less = expanded_with(&mut session, '3', "")?;
+    assert!(rt; less.printed() == "1 2 1 2 6\n" && less.faults().is_empty());
     Ok(())
 }
