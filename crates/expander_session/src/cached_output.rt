@@ -81,8 +81,6 @@ fn add_word(
 }
 
 impl EventSink for OwnPrint {
-    ghost use Rattle.std.specs.Prelude.{Unit};
-
     ghost has_taken = { HasTaken };
 
     ghost marks = { λ mark taken. Unit {0} };
