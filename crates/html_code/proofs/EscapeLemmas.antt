@@ -6,8 +6,10 @@ use Rattle.std.specs.Prelude.{chars, encode_utf8_all, nat_lt, IsUtf8}
 use Rattle.std.proofs.lemmas.List.Concat.{flat_map-append}
 use Rattle.std.proofs.lemmas.List.{append-nil}
 use Rattle.std.specs.List.{flat_map}
-use Rattle.html_code.proofs.SafeLemmas.{bracket_is_hidden, digits_as, form, form_of, hidden_is_small}
-use Rattle.html_code.specs.Escaping.{escape_of, escaped, four_digits, hex_digit, hex_digits, is_hidden, is_markup}
+use Rattle.hidden_marks.proofs.MarkLemmas.{hidden_is_small}
+use Rattle.hidden_marks.specs.Marks.{four_digits, hex_digit, hex_digits, is_hidden}
+use Rattle.html_code.proofs.SafeLemmas.{bracket_is_hidden, digits_as, form, form_of}
+use Rattle.html_code.specs.Escaping.{escape_of, escaped, is_markup}
 
 hex_same : (m n : ℕ) → hex_digit m ≡ hex_digit n → m ≡ n
 hex_same m n h = grind (arith, nat_tests)

@@ -16,7 +16,7 @@ use Rattle.html_code.specs.declared.origin.Origin.{Origin}
 use Rattle.html_code.specs.declared.source.Class.{Class}
 use Rattle.html_code.specs.declared.source.Class.TheVariants.{Blank, Comment, Code}
 use Rattle.html_code.specs.declared.source.Mark.{Mark}
-use Rattle.html_code.proofs.SafeLemmas.{either}
+use Rattle.hidden_marks.proofs.MarkLemmas.{either}
 
 word_is_plain_byte : (b : ℕ) → is_word_byte b ≡ true → is_plain_byte b ≡ true
 word_is_plain_byte b h = grind (arith, nat_tests)

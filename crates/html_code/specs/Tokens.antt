@@ -2,7 +2,7 @@
 -- element of its own.
 use Rattle.std.specs.Prelude.{◌≡◌, ℕ, List, [], ◌∷◌, Bool, true, false, Option, Some, None, not, ◌&&◌, ◌||◌, ◌==◌, codes, if◌then◌else◌}
 use Rattle.std.specs.List.{list_all}
-use Rattle.html_code.specs.Escaping.{is_within}
+use Rattle.hidden_marks.specs.Marks.{is_within}
 use Rattle.html_code.specs.Parts.{Part, tag, shown, isolated}
 
 -- ---- characters of ASCII; each byte of another character is above them

@@ -1,9 +1,12 @@
 //! Parses a definition, and gives its rules, its fault, copies and equality.
-ghost use Rattle.std.specs.Prelude.{◌≡◌, ◌<◌, ◌^◌, IfOk, IsOkUnless, None, Some, length, map, option_map};
+ghost use Rattle.std.specs.Prelude.{◌≡◌, ◌<◌, ◌^◌, IfOk, IsOkUnless, None, Some, false, length};
+ghost use Rattle.std.specs.Prelude.{map, option_map};
+ghost use Rattle.std.specs.List.{list_any};
 ghost use Rattle.tt_data.specs.declared.edition.Edition.{Edition};
 ghost use Rattle.tt_data.specs.declared.span.SyntaxContext.{SyntaxContext};
 ghost use Rattle.symbols.specs.declared.fault.TtFault.TheVariants as fault;
 ghost use Rattle.mbe_rules.specs.Editions.{IsAnsweredBy};
+ghost use Rattle.mbe_rules.specs.Items.{has_empty_round};
 ghost use Rattle.mbe_rules.specs.Ops as ops;
 ghost use Rattle.mbe_rules.specs.Parsing.{macro_of, macro_rules_of, no_rules};
 ghost use Rattle.mbe_rules.specs.Styles.{bits_of};
@@ -126,6 +129,17 @@ impl DeclarativeMacro {
             Definition::Read(rules, _) => rules.err.as_ref(),
             Definition::Broken(err) => Some(err),
         }
+    }
+
+    /// The rules, in order: each with its style, its matcher and its transcriber.
+    ///
+    /// If the definition has no fault, no repetition of their matchers can iterate without end.
+    pub fn rules(&self) -> &[Rule]
+        ensures rules { map ops.rule_of result.now ≡ (rules_of self.now).list }
+        ensures ends { (rules_of self.now).err ≡ None →
+            list_any (λ r. has_empty_round r.pattern) (rules_of self.now).list ≡ false }
+    {
+        self.list()
     }
 
     // The rules.

@@ -85,6 +85,38 @@ fn read_fit<G: FragmentGrammar, M: Fn(Span) -> Span>(
     filled(alloc, &rule.template, &bindings, marker, top)
 }
 
+/// What one rule gives for an argument, inside the delimiters `top`, whatever its style. `None` if
+/// it does not fit: its matcher does not match, or its transcriber cannot be filled.
+///
+/// No repetition of the matcher can iterate without end. `marker` gives the span of a
+/// transcriber's token in the result, and may be called on every span.
+///
+/// # Errors
+///
+/// `Memory`; or `Tokens` if the transcriber puts out more than `u32::MAX` tokens, be it before a
+/// fault.
+pub fn rule_result<G: FragmentGrammar, M: Fn(Span) -> Span>(
+    alloc: Global,
+    grammar: &G,
+    rule: &Rule,
+    argument: TokenTreesView<'_>,
+    marker: &M,
+    top: Delimiter,
+) -> Result<Option<TopSubtree>, TtFault>
+    requires pattern { has_empty_round (items_of rule.now.pattern.items) ≡ false }
+    requires marker { M.IsAlwaysCallable marker.now }
+    ensures tree { (mark : Span → Span) → IsMarkedBy (M.post marker.now) mark →
+        IfOk result (λ o. o ≡ option_map (within top) (spec.rule_fit is_name
+        (G.answer grammar.now) mark (rule_of rule.now) (forest argument.entry))) }
+    ensures faults { IfErr result IsWantOfRoom }
+    ensures tokens { (mark : Span → Span) → IsMarkedBy (M.post marker.now) mark →
+        result ≡ Err Tokens → template_bursts is_name (G.answer grammar.now) mark
+        (rule_of rule.now) (the_reading (G.answer grammar.now) (items_of rule.now.pattern.items)
+        (forest argument.entry)) ≡ true }
+{
+    read_fit(alloc, grammar, rule, argument, marker, top)
+}
+
 // What one rule gives for an argument. `None` if it does not fit, which most show by their first
 // op. `key` and `name` are the keys of the identifiers that the matcher and the argument begin
 // with.

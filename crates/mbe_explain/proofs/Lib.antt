@@ -12,4 +12,7 @@ pub mod LevelLemmas
 pub mod SearchLemmas
 pub mod WantedLemmas
 pub mod VisitLemmas
+pub mod DistanceLemmas
+pub mod FilledLemmas
+pub mod RulesLemmas
 pub mod Rows

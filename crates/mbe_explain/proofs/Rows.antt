@@ -1,5 +1,5 @@
 -- Worked rows: where calls stop that no rule fits, and what is wanted there.
-use Rattle.std.proofs.Common.{◌≡◌, inl, refl, ap, subst, ℕ, List, [], ◌∷◌, codes, Some, arith}
+use Rattle.std.proofs.Common.{◌≡◌, inl, refl, ap, subst, ℕ, List, [], ◌∷◌, codes, Some, None, arith}
 use Rattle.tt_data.specs.Forest.{Forest, empty, leaf, group}
 use Rattle.tt_data.specs.declared.delimiter.Delimiter.{Delimiter}
 use Rattle.tt_data.specs.declared.delimiter.DelimiterKind.TheVariants.{Parenthesis}
@@ -16,6 +16,7 @@ use Rattle.mbe_matcher.specs.Grammar.{Grammar}
 use Rattle.mbe_matcher.specs.Paths.{IsAmong, IsPath}
 use Rattle.mbe_matcher.specs.Readings as r
 use Rattle.mbe_matcher.specs.Units.{left, place}
+use Rattle.mbe_explain.specs.Distances.{span_before_end}
 use Rattle.mbe_explain.specs.Stops.{IsFurthest, IsWantedAt, wanted, wants_close, wants_end, wants_item, wants_separator}
 
 -- where no move is valid at first, no state but the first is reached
@@ -23,7 +24,7 @@ alone : (gr : Grammar) (s : r.State) → r.next gr s ≡ [] → (ms : List r.Mov
 alone gr s e [] t p = p
 alone gr s e (m ∷ ms) t (u, a, p) = absurd (subst (λ cs. IsAmong (m, u) cs) e a)
 
-module _ (gr : Grammar) (s : Span) (one two : Literal) (comma : Punct) where
+module _ (gr : Grammar) (s t : Span) (one two : Literal) (comma : Punct) where
   abbrev round : Delimiter
   round = record { open_span = s; close_span = s; kind = Parenthesis }
 
@@ -105,3 +106,17 @@ module _ (gr : Grammar) (s : Span) (one two : Literal) (comma : Punct) where
 
   pub list-wants-comma : IsWantedAt gr list (name (codes "a") (name (codes "b") empty)) (place (name (codes "b") empty) []) (wants_separator (puncts_between (comma ∷ [])))
   list-wants-comma = (rest_of_list, (first_of_list, (in_list, inl refl, (rest_of_list, inl refl, refl))), refl, refl)
+
+  -- of `(x) y` with a closing at t: there is the opening, where two steps are left the closing, and
+  -- at the end nothing
+  abbrev bracketed : Forest
+  bracketed = group (record { open_span = s; close_span = t; kind = Parenthesis }) (name (codes "x") empty) (name (codes "y") empty)
+
+  first-at : span_before_end bracketed 4 ≡ Some s
+  first-at = refl
+
+  closing-at : span_before_end bracketed 2 ≡ Some t
+  closing-at = refl
+
+  end-at : span_before_end bracketed 0 ≡ None
+  end-at = refl

@@ -1,9 +1,12 @@
-//! Explains why a matcher of macros by example does not match an argument.
+//! Explains why the rules of a macro by example do not fit a call: where and why their matchers
+//! stop, and what they want there.
 #![tactic(auto)]
 
 mod choices;
+mod distance;
 mod explain;
 mod level;
+mod rules;
 mod search;
 mod step;
 mod survey;
@@ -11,4 +14,5 @@ mod wanted;
 mod words;
 
 pub use explain::{Stop, StopKind, explain_pattern};
+pub use rules::{Explanation, RuleStop, explain_call};
 pub use wanted::Wanted;

@@ -1,7 +1,8 @@
 use Rattle.std.proofs.Common.{◌≡◌, ◌∙◌, ap, sym}
 use Rattle.std.proofs.lemmas.List.{append-nil}
 use Rattle.std.specs.Prelude.{encode_utf8, encode_utf8_all}
-use Rattle.html_code.proofs.SafeLemmas.{hidden_is_small, plain_form}
+use Rattle.hidden_marks.proofs.MarkLemmas.{hidden_is_small}
+use Rattle.html_code.proofs.SafeLemmas.{plain_form}
 use Rattle.html_code.specs.Escaping.{escape_of}
 use Rattle.html_code.proofs.escape.push_char.Goals as goal
 

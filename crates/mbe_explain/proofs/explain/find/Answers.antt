@@ -1,9 +1,10 @@
-use Rattle.std.proofs.Common.{◌≡◌, sym, ap, subst, ◌∙◌, ◌∷◌, ◌++◌, [], None}
+use Rattle.std.proofs.Common.{◌≡◌, sym, ap, subst, ◌∙◌, ◌∷◌, ◌++◌, [], None, arith}
 use Rattle.tt.specs.Views.{forest}
 use Rattle.mbe_rules.specs.Ops.{items_of}
 use Rattle.mbe_matcher.specs.Paths.{clash}
 use Rattle.mbe_matcher.specs.Places.{place_of}
 use Rattle.mbe_matcher.specs.Settled.{IsSoundAt}
+use Rattle.mbe_matcher.specs.Units.{left}
 use Rattle.mbe_matcher.specs.Waiting.{Each}
 use Rattle.mbe_explain.specs.Surveys.{comes_of, head_taken, kind_at_end, takings_of}
 use Rattle.mbe_explain.proofs.FoundLemmas.{IsFound, after-survey, clash-found, end-found, entered-start}
@@ -20,6 +21,8 @@ loop-entries-init g c = record {
   waiting = c.new-found.ensures.waiting;
   seen = c.new-found.ensures.seen;
   tasks = c.new-found.ensures.tasks;
+  left = c.steps-left.ensures ∙ sym (ap left c.start-place.ensures);
+  fewer = omega (arith, c.steps-left.ensures);
 }
 
 pub advance_all-requires-clause-sound : goal.advance_all-requires-clause-sound
@@ -102,9 +105,9 @@ loop-entries-smaller g c =
     let x = c.advance_all.new.self in
     let w = after-survey gr pattern argument p c.loop-entries.entries.items c.deref.result.now x c.deref.ensures.value c.loop-entries.invariant.entered
     (λ e. c.in_ok-advance_all.ensures.all pattern e) in
-    (next-entered gr pattern argument p (place_of c.in_ok-place.place) x.waiting.items c.in-Some.taken w
+    (next-entered gr pattern argument p (place_of c.in_ok-after.after) x.waiting.items c.in-Some.taken w
     (sym (sym c.if-has_clash.false ∙ c.has_clash.ensures ∙ ap (λ ss. clash (takings_of ss)) c.deref-in-loop-entries.ensures.value))
-    (ap head_taken (sym c.deref-in-loop-entries-2.ensures.value) ∙ sym c.first_taken.ensures ∙ c.in-Some.is) c.in_ok-place.ensures).lower
+    (ap head_taken (sym c.deref-in-loop-entries-2.ensures.value) ∙ sym c.first_taken.ensures ∙ c.in-Some.is) c.in_ok-after.ensures.place).lower
 
 pub loop-entries-preserved : goal.loop-entries-preserved
 loop-entries-preserved g c =
@@ -115,15 +118,17 @@ loop-entries-preserved g c =
     let x = c.advance_all.new.self in
     let w = after-survey gr pattern argument p c.loop-entries.entries.items c.deref.result.now x c.deref.ensures.value c.loop-entries.invariant.entered
     (λ e. c.in_ok-advance_all.ensures.all pattern e) in
-    let q = place_of c.in_ok-place.place in
+    let q = place_of c.in_ok-after.after in
     let n = next-entered gr pattern argument p q x.waiting.items c.in-Some.taken w
     (sym (sym c.if-has_clash.false ∙ c.has_clash.ensures ∙ ap (λ ss. clash (takings_of ss)) c.deref-in-loop-entries.ensures.value))
-    (ap head_taken (sym c.deref-in-loop-entries-2.ensures.value) ∙ sym c.first_taken.ensures ∙ c.in-Some.is) c.in_ok-place.ensures in
+    (ap head_taken (sym c.deref-in-loop-entries-2.ensures.value) ∙ sym c.first_taken.ensures ∙ c.in-Some.is) c.in_ok-after.ensures.place in
     record {
       entered = subst (λ es. Entered gr pattern argument q (comes_of q es)) (sym c.hand_over.ensures.handed) n.entered;
       waiting = c.hand_over.ensures.waiting;
       seen = c.hand_over.ensures.seen;
       tasks = c.hand_over.ensures.tasks ∙ c.in_ok-advance_all.ensures.done;
+      left = omega (arith, c.in_ok-after.ensures.passed, c.loop-entries.invariant.left);
+      fewer = omega (arith, c.loop-entries.invariant.fewer);
     }
 
 pub returns-then-has_clash-clause-sound : goal.returns-then-has_clash-clause-sound

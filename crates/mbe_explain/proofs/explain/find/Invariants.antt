@@ -1,4 +1,5 @@
-use Rattle.std.proofs.Common.{◌≡◌, []}
+use Rattle.std.proofs.Common.{◌≡◌, ◌≤◌, []}
+use Rattle.fragment_grammar.specs.Steps.{steps}
 use Rattle.tt.specs.Views.{forest}
 use Rattle.mbe_rules.specs.Ops.{items_of}
 use Rattle.mbe_matcher.specs.Places.{place_of}
@@ -14,6 +15,8 @@ invariant-loop-entries g l = record {
   waiting : l.found.waiting.items ≡ [];
   seen : l.found.seen ≡ [];
   tasks : l.found.tasks.items ≡ [];
+  left : l.left ≡ left (place_of l.place);
+  fewer : l.left ≤ steps (forest l.fn.argument);
 }
 
 abbrev pub decreases-loop-entries : goal.decreases-loop-entries

@@ -1,0 +1,2 @@
+-- which characters are hidden, and the marks that show them
+pub mod Marks

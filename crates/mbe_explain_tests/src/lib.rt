@@ -1,0 +1,8 @@
+//! Tests of the public calls of `mbe_explain`, run from text: `bridge` reads a definition and the
+//! argument of a call. The places are those that rustc 1.95 names.
+#![tactic(auto)]
+
+#[cfg(test)]
+mod calls;
+#[cfg(test)]
+mod texts;
