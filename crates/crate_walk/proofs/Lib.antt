@@ -1,0 +1,5 @@
+-- lemmas by subject; the worked examples
+pub mod FolderLemmas
+pub mod TableLemmas
+pub mod WalkLemmas
+mod Rows
