@@ -52,8 +52,8 @@ pub struct ImportItem {
 pub struct CrateItem {
     /// Its name, without `r#`.
     pub name: String,
-    /// The name that it has here.
-    pub alias: String,
+    /// The other name that it has here.
+    pub alias: Option<String>,
     /// Whether what it exports is in scope from here on: it has the attribute `macro_use`.
     pub keeps_macros: bool,
     /// The offset of its name in the text, in bytes.

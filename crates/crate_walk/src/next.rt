@@ -42,10 +42,10 @@ fn event_of<'a>(table: &'a Table, frame: &Frame) -> Option<&'a Event>
 }
 
 // What the attribute `path` of a module says.
-fn path_of(module: &ModuleItem) -> Option<&str>
-    ensures { option_map (λ p. p.now) result ≡ option_map string_bytes module.now.path }
+fn path_of(item: &ModuleItem) -> Option<&str>
+    ensures { option_map (λ p. p.now) result ≡ option_map string_bytes item.now.path }
 {
-    match &module.path {
+    match &item.path {
         Some(path) => Some(path.as_str()),
         None => None,
     }
@@ -63,15 +63,15 @@ fn next_at<F: Files>(
     ensures allowed { IfOk result (λ n. IsAllowed n left) }
 {
     match event {
-        Event::Inline(module, count) => {
-            let inner = folder.inside(alloc, module.name.as_str(), path_of(module))?;
+        Event::Inline(item, count) => {
+            let inner = folder.inside(alloc, item.name.as_str(), path_of(item))?;
             Ok(Next::Inline(inner, *count))
         }
-        Event::Outline(module) => {
+        Event::Outline(item) => {
             if left == 0 {
                 return Ok(Next::TooMany);
             }
-            Ok(Next::Outline(seek(alloc, files, folder, module)?))
+            Ok(Next::Outline(seek(alloc, files, folder, item)?))
         }
         Event::Macro(_) | Event::Import(_) | Event::Crate(_) => Ok(Next::Item),
     }

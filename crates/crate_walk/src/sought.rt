@@ -90,12 +90,12 @@ pub(crate) fn seek<F: Files>(
     alloc: Global,
     files: &F,
     folder: &Folder,
-    module: &ModuleItem,
+    item: &ModuleItem,
 ) -> Result<Sought, AllocError>
-    ensures { IfOk result (λ s. IsSought (F.finds files.now) folder.now module.now (seen s)) }
+    ensures { IfOk result (λ s. IsSought (F.finds files.now) folder.now item.now (seen s)) }
 {
-    match &module.path {
+    match &item.path {
         Some(path) => seek_by_path(alloc, files, folder, path.as_str()),
-        None => seek_by_name(alloc, files, folder, module.name.as_str()),
+        None => seek_by_name(alloc, files, folder, item.name.as_str()),
     }
 }
