@@ -5,11 +5,12 @@ use Rattle.std.specs.Global.{Global}
 use Rattle.cfg_options.specs.Conditions.{Options, is_kept}
 use Rattle.cfg_options.specs.Strings.{string_text}
 use Rattle.crate_items.specs.Attributes.{has_attribute, path_of}
+use Rattle.crate_items.specs.ImportEvents.{import_of}
+use Rattle.crate_items.specs.Imports.{Import, imports_of}
 use Rattle.crate_items.specs.Heads.{braced, crate_alias, crate_head, module_head}
 use Rattle.crate_walk.specs.declared.event.CrateItem.{CrateItem}
 use Rattle.crate_walk.specs.declared.event.Event.{Event}
 use Rattle.crate_walk.specs.declared.event.Event.TheVariants as event
-use Rattle.crate_walk.specs.declared.event.ImportItem.{ImportItem}
 use Rattle.crate_walk.specs.declared.event.MacroItem.{MacroItem}
 use Rattle.crate_walk.specs.declared.event.ModuleItem.{ModuleItem}
 use Rattle.expander_model.specs.Definitions.{Definition, definition_of, is_semicolon}
@@ -40,15 +41,6 @@ pub record Other : Type 0 where
   pub name : List ℕ
   pub alias : Option (List ℕ)
   pub keeps_macros : Bool
-  pub range : TextRange
-
--- a name from elsewhere: its path, whether that begins with `::`, the name that it has here (none:
--- all names of the path), whether it is seen outside the module, and where its last name is
-pub record Import : Type 0 where
-  pub path : List (List ℕ)
-  pub is_global : Bool
-  pub name : Option (List ℕ)
-  pub is_public : Bool
   pub range : TextRange
 
 -- an item; an inline module has so many of the next ones in it
@@ -86,15 +78,6 @@ other_of c = record {
   alias = option_map string_bytes c.alias;
   keeps_macros = c.keeps_macros;
   range = range_at c.start c.«end»;
-}
-
-abbrev pub import_of : ImportItem → Import
-import_of i = record {
-  path = map string_bytes i.path.items;
-  is_global = i.is_global;
-  name = option_map string_bytes i.name;
-  is_public = i.is_public;
-  range = range_at i.start i.«end»;
 }
 
 abbrev pub item_of : Event → Item
@@ -172,7 +155,9 @@ with_head items piece (Some head) = behind_name items (module_at piece head.0) h
 
 -- the items that a piece is but for modules
 abbrev pub own_items : Forest → List Item
-own_items piece = listed definition (macro_in piece) ++ listed other (other_in piece)
+own_items piece =
+    listed definition (macro_in piece)
+    ++ (listed other (other_in piece) ++ map import (imports_of piece))
 
 -- the items of a piece that is not left out, where `items` gives those of a module's trees
 abbrev pub kept_items : (Forest → List Item) → Forest → List Item

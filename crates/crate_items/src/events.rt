@@ -10,8 +10,8 @@ use std::alloc::{AllocError, Global};
 use tt::TtIter;
 use tt_data::Ident;
 
-// The text of a name.
-fn text(alloc: Global, name: &Ident) -> Result<String, AllocError>
+/// The text of a name.
+pub(crate) fn text(alloc: Global, name: &Ident) -> Result<String, AllocError>
     ensures { IfOk result (λ t. string_bytes t ≡ name.now.sym) }
 {
     String::from_str(alloc, name.sym.as_str())

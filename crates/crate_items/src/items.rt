@@ -2,11 +2,12 @@
 ghost use Rattle.std.specs.Prelude.{◌≡◌, ◌++◌, ◌∷◌, IfOk, OnOk, flat_map, map};
 ghost use Rattle.cfg_options.specs.Options.{options_of};
 ghost use Rattle.expander_model.specs.Pieces.{cut};
-ghost use Rattle.crate_items.specs.Items.{items_of_events, items_within, kept_items, own_items, piece_items, text_items, with_head};
+ghost use Rattle.crate_items.specs.Items.{definition, import, items_of_events, items_within, kept_items, listed, macro_in, other, other_in, own_items, piece_items, text_items, with_head};
 ghost use Rattle.crate_items.specs.Heads.{module_head};
 
 use crate::events::{macro_in, module_at, other_in};
 use crate::heads::{braced, is_semicolon, module_head};
+use crate::imports::push_imports;
 use cfg_options::CfgOptions;
 use crate_walk::Event;
 use expander_model::split::next_piece;
@@ -16,18 +17,37 @@ use tt::TtIter;
 // How many lists of items inside one another are read: that of the text, and 64 modules.
 const MOST_LISTS: u8 = 65;
 
+// Adds the definition that a piece is, if it is one.
+fn push_macro(alloc: Global, piece: &TtIter<'_>, events: &mut Vec<Event>) -> Result<(), AllocError>
+    ensures { OnOk result (items_of_events events.new
+        ≡ items_of_events events.old ++ listed definition (macro_in piece.now)) }
+{
+    match macro_in(alloc, piece)? {
+        Some(item) => Ok(events.push(Event::Macro(item))?),
+        None => Ok(()),
+    }
+}
+
+// Adds the other crate that a piece names, if it names one.
+fn push_other(alloc: Global, piece: &TtIter<'_>, events: &mut Vec<Event>) -> Result<(), AllocError>
+    ensures { OnOk result (items_of_events events.new
+        ≡ items_of_events events.old ++ listed other (other_in piece.now)) }
+{
+    match other_in(alloc, piece)? {
+        Some(item) => Ok(events.push(Event::Crate(item))?),
+        None => Ok(()),
+    }
+}
+
 // Adds the items that a piece is but for modules.
+#[tactic(auto, using(crate::proofs::ItemLemmas::three_more))]
 fn push_own(alloc: Global, piece: &TtIter<'_>, events: &mut Vec<Event>) -> Result<(), AllocError>
     ensures { OnOk result (items_of_events events.new
         ≡ items_of_events events.old ++ own_items piece.now) }
 {
-    if let Some(item) = macro_in(alloc, piece)? {
-        events.push(Event::Macro(item))?;
-    }
-    if let Some(item) = other_in(alloc, piece)? {
-        events.push(Event::Crate(item))?;
-    }
-    Ok(())
+    push_macro(alloc, piece, events)?;
+    push_other(alloc, piece, events)?;
+    push_imports(alloc, piece, events)
 }
 
 // Adds the items of some trees, with those of modules inside one another so many levels deep.

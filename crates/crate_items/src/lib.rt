@@ -4,7 +4,9 @@
 mod attributes;
 mod events;
 mod heads;
+mod imports;
 mod items;
+mod parts;
 mod reading;
 
 pub use reading::{content_of, content_of_bytes};
