@@ -2,4 +2,5 @@
 pub mod FolderLemmas
 pub mod TableLemmas
 pub mod WalkLemmas
+pub mod ScopeLemmas
 mod Rows

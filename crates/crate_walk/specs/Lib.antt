@@ -4,6 +4,8 @@ pub mod Files
 pub mod Seeking
 pub mod Walks
 pub mod Modules
+pub mod Scopes
 -- what the functions inside the crate promise each other
 pub mod Tables
 pub mod Frames
+pub mod Marks
