@@ -1,0 +1,4 @@
+-- lemmas by subject
+pub mod AttributeLemmas
+pub mod ItemLemmas
+pub mod ImportLemmas

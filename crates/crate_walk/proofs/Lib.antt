@@ -1,0 +1,6 @@
+-- lemmas by subject; the worked examples
+pub mod FolderLemmas
+pub mod TableLemmas
+pub mod WalkLemmas
+pub mod ScopeLemmas
+mod Rows

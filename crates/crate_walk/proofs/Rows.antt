@@ -1,0 +1,84 @@
+-- Worked examples, which rustc agrees with.
+use Rattle.std.specs.Prelude.{◌≡◌, codes, refl, Some, None}
+use Rattle.crate_walk.specs.Folders.{Folder, both, by_folder, by_name, by_path, folder_of, inside, root_folder}
+
+-- ---- the folder of a file
+
+file_in_folder : folder_of (codes "src/a/b.rs") ≡ codes "src/a/"
+file_in_folder = refl
+
+file_alone : folder_of (codes "lib.rs") ≡ codes ""
+file_alone = refl
+
+file_at_the_top : folder_of (codes "/lib.rs") ≡ codes "/"
+file_at_the_top = refl
+
+-- ---- the modules of a root
+
+-- `mod a;` in `src/lib.rs` is in `src/a.rs`, and `mod b;` in that is in `src/a/b.rs`
+beside_the_root : by_name (root_folder (codes "src/lib.rs")) (codes "a")
+    ≡ (codes "src/a.rs", record { files = codes "src/"; modules = codes "src/a/" })
+beside_the_root = refl
+
+-- or in `src/a/mod.rs`, and `mod b;` in that beside it
+in_a_folder : by_folder (root_folder (codes "src/lib.rs")) (codes "a")
+    ≡ (codes "src/a/mod.rs", both (codes "src/a/"))
+in_a_folder = refl
+
+-- `#[path = "../gen/x.rs"] mod a;` is in `src/../gen/x.rs`, and the modules in that are beside it
+by_a_path : by_path (root_folder (codes "src/lib.rs")) (codes "../gen/x.rs")
+    ≡ (codes "src/../gen/x.rs", both (codes "src/../gen/"))
+by_a_path = refl
+
+-- an absolute path stays as it is
+by_an_absolute_path : by_path (root_folder (codes "src/lib.rs")) (codes "/x.rs")
+    ≡ (codes "/x.rs", both (codes "/"))
+by_an_absolute_path = refl
+
+-- a root without a folder
+root_alone : by_name (root_folder (codes "lib.rs")) (codes "a")
+    ≡ (codes "a.rs", record { files = codes ""; modules = codes "a/" })
+root_alone = refl
+
+-- ---- the modules of `src/a/b.rs`, which is the module `b` of `src/a.rs`
+
+in_b : Folder
+in_b = record { files = codes "src/a/"; modules = codes "src/a/b/" }
+
+-- `mod c;`
+under_a_file : by_name in_b (codes "c")
+    ≡ (codes "src/a/b/c.rs", record { files = codes "src/a/b/"; modules = codes "src/a/b/c/" })
+unfolding in_b
+under_a_file = refl
+
+-- `#[path = "other.rs"] mod c;` counts from the folder of the file
+path_counts_from_the_file : by_path in_b (codes "other.rs")
+    ≡ (codes "src/a/other.rs", both (codes "src/a/"))
+unfolding in_b
+path_counts_from_the_file = refl
+
+-- `mod inline { #[path = "other.rs"] mod inner; }` (the Reference's example)
+path_in_an_inline_module : by_path (inside in_b (codes "inline") None) (codes "other.rs")
+    ≡ (codes "src/a/b/inline/other.rs", both (codes "src/a/b/inline/"))
+unfolding in_b
+path_in_an_inline_module = refl
+
+-- ---- inline modules in a root
+
+-- `#[path = "thread_files"] mod thread { #[path = "tls.rs"] mod local_data; }` (the Reference's
+-- example)
+path_of_an_inline_module :
+    by_path (inside (root_folder (codes "src/lib.rs")) (codes "thread") (Some (codes "thread_files")))
+    (codes "tls.rs")
+    ≡ (codes "src/thread_files/tls.rs", both (codes "src/thread_files/"))
+path_of_an_inline_module = refl
+
+-- a slash at the end of such a path is not doubled
+path_with_a_slash : inside (root_folder (codes "src/lib.rs")) (codes "m") (Some (codes "x/"))
+    ≡ both (codes "src/x/")
+path_with_a_slash = refl
+
+-- `mod a { mod b; }`
+named_inline_module : by_name (inside (root_folder (codes "src/lib.rs")) (codes "a") None) (codes "b")
+    ≡ (codes "src/a/b.rs", record { files = codes "src/a/"; modules = codes "src/a/b/" })
+named_inline_module = refl

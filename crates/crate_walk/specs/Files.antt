@@ -1,0 +1,28 @@
+-- The files of a crate that were read, and what they declare.
+use Rattle.std.specs.Prelude.{ℕ, nat_lt, List, [], Option, None, option_and_then, if◌then◌else◌}
+use Rattle.std.specs.List.{slice_get}
+use Rattle.crate_walk.specs.declared.content.Content.{Content}
+use Rattle.crate_walk.specs.declared.content.Content.TheVariants.{Text, Unread}
+use Rattle.crate_walk.specs.declared.event.Event.{Event}
+use Rattle.crate_walk.specs.declared.step.Place.{Place}
+
+-- what the text of a file declares: nothing if it cannot be read
+abbrev pub events_of : Content → List Event
+events_of (Text text events) = events.items
+events_of (Unread why) = []
+
+-- the files that were read, numbered from 0: their names, and what each has
+pub record Files : Type 0 where
+  pub names : List (List ℕ)
+  pub contents : List Content
+
+-- the event of this index of a file, if it is before the event of index `last`
+abbrev pub event_in : Files → ℕ → ℕ → ℕ → Option Event
+event_in files file at last = if nat_lt at last
+    then option_and_then (λ c. slice_get (events_of c) at) (slice_get files.contents file)
+    else None
+
+-- the event of this index of a file
+abbrev pub event_of : Files → Place → Option Event
+event_of files p =
+    option_and_then (λ c. slice_get (events_of c) p.event) (slice_get files.contents p.file)

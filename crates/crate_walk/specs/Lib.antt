@@ -1,0 +1,11 @@
+-- what the public contracts say
+pub mod Folders
+pub mod Files
+pub mod Seeking
+pub mod Walks
+pub mod Modules
+pub mod Scopes
+-- what the functions inside the crate promise each other
+pub mod Tables
+pub mod Frames
+pub mod Marks
