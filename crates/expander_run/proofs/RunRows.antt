@@ -12,7 +12,7 @@ use Rattle.expander_run.specs.declared.stop.Stop.{Stop}
 use Rattle.expander_run.specs.declared.stop.Stop.TheVariants.{ReadFailed}
 use Rattle.expander_model.specs.Calls.{Path, bare, from_crate, other, Marked, none, token, inside, call, key_of, marked, unmarked}
 use Rattle.expander_model.specs.Definitions.{Definition, definition_of, nearest}
-use Rattle.expander_model.specs.Expansion.{World, Outcome, CallSite, just, faulted, whole_call}
+use Rattle.expander_model.specs.Expansion.{World, Outcome, CallSite, just, faulted}
 use Rattle.expander_session.specs.Replies.{NeedsNumbers}
 use Rattle.expander_model.specs.Meaning.{Layers, member, members_after, with_definition}
 use Rattle.expander_model.specs.Limits.{outermost}
