@@ -12,9 +12,11 @@ use Rattle.expander_run.specs.declared.stop.Stop.{Stop}
 use Rattle.expander_run.specs.declared.stop.Stop.TheVariants.{ReadFailed}
 use Rattle.expander_model.specs.Calls.{Path, bare, from_crate, other, Marked, none, token, inside, call, key_of, marked, unmarked}
 use Rattle.expander_model.specs.Definitions.{Definition, definition_of, nearest}
-use Rattle.expander_model.specs.Expansion.{World, Outcome, CallSite, just, faulted, whole_call}
+use Rattle.expander_model.specs.Expansion.{World, Outcome, CallSite, just, faulted}
 use Rattle.expander_session.specs.Replies.{NeedsNumbers}
 use Rattle.expander_model.specs.Meaning.{Layers, member, members_after, with_definition}
+use Rattle.expander_model.specs.Limits.{outermost}
+use Rattle.expander_model.specs.declared.limits.Limits.{Limits}
 use Rattle.expander_model.specs.Scoping.{call_site, Around, Scoped, Search, PieceKind, out_piece, definition_piece, plain_piece, found_in, kind_in, is_left_out, in_group, behind, without_locals, and_next, in_brackets, defined, unbroken, looked_up, at_key, at_call, kept_call, search_leaf, takes_end, search_trees, search_piece, search_pieces, search_list}
 use Rattle.expander_model.specs.PieceStates.{after_call, after_group, after_leaf}
 use Rattle.expander_model.specs.Pieces.{cut}
@@ -197,9 +199,14 @@ module _ (dialect : Dialect) (world : World Definition) (local : Definition → 
   small_list zero around f = refl
   small_list (suc n) around f = small_parts (search_list dialect world local scope None n) (small_list n) around (cut f)
 
+  -- by limits or without
+  small_outermost : (limits : Option Limits) (around : Around) (f : Forest) → IsSmall (outermost dialect world local scope limits 0 around f)
+  small_outermost None around f = small_list (suc (size f)) around f
+  small_outermost (Some limits) around f = small_list (suc (size f)) around f
+
 -- by whatever dialect
 quiet_member : (layers : Layers) (before : List Definition) (p : Forest) (d : Option Definition) → bursts (member layers 0 before p d) ≡ false
-quiet_member layers before p None = small_list layers.world.dialect layers.world (λ d. d) (found_in layers.world.dialect before) (suc (size p)) (without_locals Top None) p
+quiet_member layers before p None = small_outermost layers.world.dialect layers.world (λ d. d) (found_in layers.world.dialect before) layers.world.dialect.limits (without_locals Top None) p
 quiet_member layers before p (Some d) = refl
 
 never_without_a_level : (layers : Layers) (before : List Definition) (ps : List Forest) → list_any bursts (members_after layers 0 before ps) ≡ false

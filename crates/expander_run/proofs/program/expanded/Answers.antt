@@ -1,4 +1,3 @@
-use Rattle.std.proofs.Common.{◌≡◌}
 use Rattle.expander_run.proofs.program.expanded.Goals as goal
 
 pub returns-clause-tokens : goal.returns-clause-tokens
