@@ -4,7 +4,8 @@ use Rattle.std.specs.List.{slice_get}
 use Rattle.crate_walk.specs.Files.{Files, event_in, events_of}
 use Rattle.crate_walk.specs.Folders.{Folder, inside, root_folder}
 use Rattle.crate_walk.specs.Seeking.{Finding, found, IsSought, seen}
-use Rattle.crate_walk.specs.Tables.{AreMore, IsTable, files_in}
+use Rattle.crate_walk.specs.Tables.{AreMore, IsTable}
+use Rattle.crate_walk.specs.Files.{files_in}
 use Rattle.crate_walk.specs.Walks.{Here, Walks, IsLacking, end_of, entered, is_cut, is_item, is_open, is_text}
 use Rattle.crate_walk.specs.declared.content.Content.{Content}
 use Rattle.crate_walk.specs.declared.event.Event.{Event}

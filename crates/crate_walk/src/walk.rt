@@ -4,7 +4,8 @@ ghost use Rattle.crate_walk.specs.Frames.{Advances, AreRead, IsContentEntry, IsE
 ghost use Rattle.crate_walk.specs.Modules.{AreModules};
 ghost use Rattle.crate_walk.specs.Frames.{at_next, behind_inline, behind_next, file_frame, here_of, inline_frame};
 ghost use Rattle.crate_walk.specs.Seeking.{found, seen};
-ghost use Rattle.crate_walk.specs.Tables.{AddsOrFinds, AreMore, IsTable, files_in};
+ghost use Rattle.crate_walk.specs.Tables.{AddsOrFinds, AreMore, IsTable};
+ghost use Rattle.crate_walk.specs.Files.{files_in};
 ghost use Rattle.crate_walk.specs.Walks.{is_open};
 ghost use Rattle.crate_walk.specs.declared.next.Next.TheVariants as next;
 ghost use Rattle.crate_walk.specs.declared.step.Step.TheVariants as step;

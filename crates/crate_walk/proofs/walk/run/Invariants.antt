@@ -1,6 +1,7 @@
 -- The walk has come from the state at the beginning, and can do less after each turn.
 use Rattle.crate_walk.specs.Frames.{Advances, measure_of}
-use Rattle.crate_walk.specs.Tables.{IsTable, files_in}
+use Rattle.crate_walk.specs.Tables.{IsTable}
+use Rattle.crate_walk.specs.Files.{files_in}
 use Rattle.crate_walk.proofs.walk.run.Given as goal
 
 abbrev pub invariant-loop : goal.invariant-loop
