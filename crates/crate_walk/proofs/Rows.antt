@@ -1,6 +1,6 @@
 -- Worked examples. Those on files were compared with rustc.
-use Rattle.std.specs.Prelude.{◌≡◌, codes, refl, Bool, true, false, List, [], ◌∷◌, Some, None}
-use Rattle.crate_walk.specs.Scopes.{Begun, Scope, begins, ends, picks_at_end}
+use Rattle.std.specs.Prelude.{◌≡◌, codes, refl, Bool, true, false, [], ◌∷◌, Some, None}
+use Rattle.crate_walk.specs.Scopes.{Begun, ends, picks_at_end}
 use Rattle.crate_walk.specs.Seeking.{ambiguous, choice, found, missing, only}
 use Rattle.crate_walk.specs.Walks.{end_of}
 use Rattle.crate_walk.specs.declared.step.Place.{Place}

@@ -59,6 +59,7 @@ goes_as old new s b begun n count e f goes = record {
   frames = goes.frames ∙ e;
   table = goes.table;
   left = goes.left ∙ f;
+  counted = rw (sym e) goes.counted;
 }
 
 -- a part of a list is there only before the end
@@ -207,6 +208,7 @@ module _ (finds : List ℕ → Option (List ℕ) → Type 0) where
         cut = λ is. goes.left ∙ cut is;
       };
       right = rw goes.table right;
+      counted = rw goes.frames goes.counted;
       less = rw (goes.frames, goes.left) less;
     }
 

@@ -1,5 +1,5 @@
 -- The table of the files that were read.
-use Rattle.std.specs.Prelude.{◌≡◌, ℕ, ◌<◌, ◌≤◌, List, [], ◌∷◌, ◌++◌, length, map, Some, string_bytes}
+use Rattle.std.specs.Prelude.{◌≡◌, ℕ, ◌<◌, ◌≤◌, List, [], ◌∷◌, ◌++◌, length, Some}
 use Rattle.std.specs.List.{slice_get}
 use Rattle.crate_walk.specs.Files.{Files, files_in}
 use Rattle.crate_walk.specs.declared.content.Content.{Content}
