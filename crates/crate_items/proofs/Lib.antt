@@ -1,4 +1,5 @@
--- lemmas by subject
+-- lemmas by subject; the worked examples
 pub mod AttributeLemmas
 pub mod ItemLemmas
 pub mod ImportLemmas
+mod Rows

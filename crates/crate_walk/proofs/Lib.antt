@@ -3,4 +3,5 @@ pub mod FolderLemmas
 pub mod TableLemmas
 pub mod WalkLemmas
 pub mod ScopeLemmas
+pub mod CountLemmas
 mod Rows

@@ -1,5 +1,9 @@
--- Worked examples, which rustc agrees with.
-use Rattle.std.specs.Prelude.{◌≡◌, codes, refl, Some, None}
+-- Worked examples. Those on files were compared with rustc.
+use Rattle.std.specs.Prelude.{◌≡◌, codes, refl, Bool, true, false, [], ◌∷◌, Some, None}
+use Rattle.crate_walk.specs.Scopes.{Begun, ends, picks_at_end}
+use Rattle.crate_walk.specs.Seeking.{ambiguous, choice, found, missing, only}
+use Rattle.crate_walk.specs.Walks.{end_of}
+use Rattle.crate_walk.specs.declared.step.Place.{Place}
 use Rattle.crate_walk.specs.Folders.{Folder, both, by_folder, by_name, by_path, folder_of, inside, root_folder}
 
 -- ---- the folder of a file
@@ -82,3 +86,54 @@ path_with_a_slash = refl
 named_inline_module : by_name (inside (root_folder (codes "src/lib.rs")) (codes "a") None) (codes "b")
     ≡ (codes "src/a/b.rs", record { files = codes "src/a/"; modules = codes "src/a/b/" })
 named_inline_module = refl
+
+-- ---- the file of a module
+
+-- of two files that are there neither is it
+both_are_there : choice (Some (codes "a.rs")) in_b (Some (codes "a/mod.rs")) in_b ≡ ambiguous
+both_are_there = refl
+
+the_second_is_there : choice None in_b (Some (codes "a/mod.rs")) (both (codes "a/"))
+    ≡ found (codes "a/mod.rs") (both (codes "a/"))
+the_second_is_there = refl
+
+none_is_there : only None in_b ≡ missing
+none_is_there = refl
+
+-- ---- the events of an inline module
+
+-- three events follow that at 4, and the last is at 9
+ends_of_a_module : end_of 4 3 10 ≡ 8
+ends_of_a_module = refl
+
+-- it never goes on behind the module around it
+ends_with_the_module_around : end_of 4 9 10 ≡ 10
+ends_with_the_module_around = refl
+
+-- ---- scopes
+
+-- a definition of the root, and one of its first file
+abbrev of_root : Place
+of_root = record { file = 0; event = 0 }
+
+abbrev of_a : Place
+of_a = record { file = 1; event = 3 }
+
+-- in a module, which is the file 1, begun after the definition of the root
+abbrev in_a : Bool → Begun
+in_a keeps = record { before = of_root ∷ []; keeps = keeps; file = Some 1 }
+
+-- its definitions go at its end
+definitions_go : ends (of_root ∷ of_a ∷ []) (in_a false ∷ [])
+    ≡ record { places = of_root ∷ []; begun = [] }
+definitions_go = refl
+
+-- with `macro_use` they stay
+definitions_stay : ends (of_root ∷ of_a ∷ []) (in_a true ∷ [])
+    ≡ record { places = of_root ∷ of_a ∷ []; begun = [] }
+definitions_stay = refl
+
+-- its file sees that of the root, and its own are none of the picks
+picks_are_of_other_files : picks_at_end (of_root ∷ of_a ∷ []) (in_a false ∷ [])
+    ≡ record { file = 1; places = of_root ∷ [] } ∷ []
+picks_are_of_other_files = refl

@@ -8,7 +8,8 @@ use Rattle.std.proofs.lemmas.List.{length-append}
 use Rattle.std.proofs.lemmas.Option.{slice_get_within, cond_some, none-some, same_Some, slice_get_cases, slice_get-map}
 use Rattle.std.proofs.lemmas.List.Quantifiers.{position-Some}
 use Rattle.std.proofs.lemmas.Slice.Eq.{bytes_eq-Decides}
-use Rattle.crate_walk.specs.Tables.{Adds, AddsOrFinds, HasName, IsTable, files_in}
+use Rattle.crate_walk.specs.Tables.{Adds, AddsOrFinds, HasName, IsTable}
+use Rattle.crate_walk.specs.Files.{files_in}
 use Rattle.indexmap.specs.IndexSet.{contains_text}
 use Rattle.crate_walk.specs.declared.content.Content.{Content}
 use Rattle.crate_walk.specs.declared.table.Table.{Table}

@@ -9,7 +9,8 @@ use Rattle.crate_walk.specs.Files.{Files, event_in, events_of}
 use Rattle.crate_walk.specs.Folders.{Folder, root_folder}
 use Rattle.crate_walk.specs.Frames.{Advances, AreRead, Completes, GoesOn, IsEntry, IsNext, IsNextOf, IsTurn, Leads, Starts, Turns, at_next, behind_inline, behind_next, file_frame, here_of, inline_frame, measure_of}
 use Rattle.crate_walk.specs.Seeking.{Finding, IsSought, ambiguous, found, missing, seen}
-use Rattle.crate_walk.specs.Tables.{AreMore, IsTable, files_in}
+use Rattle.crate_walk.specs.Tables.{AreMore, IsTable}
+use Rattle.crate_walk.specs.Files.{files_in}
 use Rattle.crate_walk.specs.Walks.{Here, IsFile, IsLacking, IsWalk, Lacks, Walks, end_of, entered, in_module, is_cut, is_item}
 use Rattle.crate_walk.specs.Walks.Walks.{ends, item, inline, file, passed}
 use Rattle.crate_walk.specs.declared.content.Content.{Content}
@@ -58,6 +59,7 @@ goes_as old new s b begun n count e f goes = record {
   frames = goes.frames ∙ e;
   table = goes.table;
   left = goes.left ∙ f;
+  counted = rw (sym e) goes.counted;
 }
 
 -- a part of a list is there only before the end
@@ -206,6 +208,7 @@ module _ (finds : List ℕ → Option (List ℕ) → Type 0) where
         cut = λ is. goes.left ∙ cut is;
       };
       right = rw goes.table right;
+      counted = rw goes.frames goes.counted;
       less = rw (goes.frames, goes.left) less;
     }
 

@@ -1,10 +1,11 @@
 -- The files of a crate that were read, and what they declare.
-use Rattle.std.specs.Prelude.{ℕ, nat_lt, List, [], Option, None, option_and_then, if◌then◌else◌}
+use Rattle.std.specs.Prelude.{map, string_bytes, ℕ, nat_lt, List, [], Option, None, option_and_then, if◌then◌else◌}
 use Rattle.std.specs.List.{slice_get}
 use Rattle.crate_walk.specs.declared.content.Content.{Content}
 use Rattle.crate_walk.specs.declared.content.Content.TheVariants.{Text, Unread}
 use Rattle.crate_walk.specs.declared.event.Event.{Event}
 use Rattle.crate_walk.specs.declared.step.Place.{Place}
+use Rattle.crate_walk.specs.declared.table.Table.{Table}
 
 -- what the text of a file declares: nothing if it cannot be read
 abbrev pub events_of : Content → List Event
@@ -26,3 +27,7 @@ event_in files file at last = if nat_lt at last
 abbrev pub event_of : Files → Place → Option Event
 event_of files p =
     option_and_then (λ c. slice_get (events_of c) p.event) (slice_get files.contents p.file)
+
+-- the files of a table
+abbrev pub files_in : Table → Files
+files_in t = record { names = map string_bytes t.names.keys; contents = t.contents.items }

@@ -1,10 +1,11 @@
 -- How far a walk has come.
-use Rattle.std.specs.Prelude.{◌≡◌, ℕ, ◌+◌, ◌-◌, ◌*◌, ◌<◌, Bool, List, [], ◌∷◌, ◌++◌, length, map, Option, Some, None, string_bytes, option_map}
+use Rattle.std.specs.Prelude.{◌≡◌, ℕ, ◌+◌, ◌-◌, ◌*◌, ◌<◌, Bool, List, [], ◌∷◌, ◌++◌, length, map, Option, Some, None, string_bytes, option_map, nat_eq, get_or, if◌then◌else◌}
 use Rattle.std.specs.List.{slice_get}
 use Rattle.crate_walk.specs.Files.{Files, event_in, events_of}
 use Rattle.crate_walk.specs.Folders.{Folder, inside, root_folder}
 use Rattle.crate_walk.specs.Seeking.{Finding, found, IsSought, seen}
-use Rattle.crate_walk.specs.Tables.{AreMore, IsTable, files_in}
+use Rattle.crate_walk.specs.Tables.{AreMore, IsTable}
+use Rattle.crate_walk.specs.Files.{files_in}
 use Rattle.crate_walk.specs.Walks.{Here, Walks, IsLacking, end_of, entered, is_cut, is_item, is_open, is_text}
 use Rattle.crate_walk.specs.declared.content.Content.{Content}
 use Rattle.crate_walk.specs.declared.event.Event.{Event}
@@ -24,6 +25,20 @@ use Rattle.crate_walk.specs.declared.step.Step.TheVariants as step
 -- where the items of a frame stand, in these frames
 abbrev pub here_of : Frame → List Frame → Here
 here_of f fs = record { file = f.file; folder = f.folder; around = map (λ g. g.file) fs }
+
+-- how many frames are in a file
+abbrev pub count_in : List Frame → ℕ → ℕ
+count_in [] k = 0
+count_in (f ∷ fs) k = (if nat_eq f.file k then 1 else 0) + count_in fs k
+
+-- so many frames are in each file
+abbrev pub IsCounted : List ℕ → List Frame → Type 0
+IsCounted counts fs = (k : ℕ) → get_or counts k 0 ≡ count_in fs k
+
+-- one more is in this file
+abbrev pub CountsUp : List ℕ → List ℕ → ℕ → Type 0
+CountsUp old new file =
+    (k : ℕ) → get_or new k 0 ≡ (if nat_eq file k then 1 else 0) + get_or old k 0
 
 -- the files of frames were read
 abbrev pub AreRead : Files → List Frame → Type 0
@@ -57,6 +72,7 @@ pub record GoesOn (old new : Progress) (s : Step) (begun : List Frame) (count : 
   pub frames : new.frames.items ≡ begun
   pub table : new.table ≡ old.table
   pub left : new.left ≡ count
+  pub counted : IsCounted new.counts.items begun
 
 -- a file is entered only where that is allowed
 abbrev pub IsAllowed : Next → ℕ → Type 0
@@ -98,6 +114,7 @@ pub record Starts (reads : List ℕ → Content → Type 0) (root name : List �
   pub frames : p.frames.items
       ≡ file_frame 0 (root_folder root) (length (events_of content)) ∷ []
   pub left : p.left ≡ most
+  pub counted : IsCounted p.counts.items p.frames.items
 
 module _ (finds : List ℕ → Option (List ℕ) → Type 0) where
   -- with these steps all modules end that are begun, the innermost first
@@ -128,6 +145,7 @@ module _ (finds : List ℕ → Option (List ℕ) → Type 0) where
       (old new : Progress) : Type 0 where
     pub advances : Advances begun old new
     pub right : IsTable reads (files_in new.table)
+    pub counted : IsCounted new.counts.items new.frames.items
     pub less : IsLess begun old new
 
   -- a step was made, or all modules have ended and nothing was done

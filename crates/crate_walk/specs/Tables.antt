@@ -1,13 +1,9 @@
 -- The table of the files that were read.
-use Rattle.std.specs.Prelude.{◌≡◌, ℕ, ◌<◌, ◌≤◌, List, [], ◌∷◌, ◌++◌, length, map, Some, string_bytes}
+use Rattle.std.specs.Prelude.{◌≡◌, ℕ, ◌<◌, ◌≤◌, List, [], ◌∷◌, ◌++◌, length, Some}
 use Rattle.std.specs.List.{slice_get}
-use Rattle.crate_walk.specs.Files.{Files}
+use Rattle.crate_walk.specs.Files.{Files, files_in}
 use Rattle.crate_walk.specs.declared.content.Content.{Content}
 use Rattle.crate_walk.specs.declared.table.Table.{Table}
-
--- the files of a table
-abbrev pub files_in : Table → Files
-files_in t = record { names = map string_bytes t.names.keys; contents = t.contents.items }
 
 -- later files: those that were read before are among them
 pub record AreMore (old new : Files) : Type 0 where

@@ -2,7 +2,7 @@
 ghost use Rattle.std.specs.Prelude.{◌≡◌, ◌<◌, IfOk, length, option_copied, option_map, string_bytes};
 ghost use Rattle.crate_walk.specs.Files.{event_in};
 ghost use Rattle.crate_walk.specs.Frames.{IsAllowed, IsNext, IsNextOf};
-ghost use Rattle.crate_walk.specs.Tables.{files_in};
+ghost use Rattle.crate_walk.specs.Files.{files_in};
 
 use crate::event::{Event, ModuleItem};
 use crate::files::Files;

@@ -1,7 +1,8 @@
 //! How far a walk has come.
-ghost use Rattle.std.specs.Prelude.{◌≡◌, ◌+◌, ◌<◌, ◌∷◌, ◌++◌, [], OnOk, nat_eq};
-ghost use Rattle.std.specs.List.{list_any};
-ghost use Rattle.crate_walk.specs.declared.progress.Frame.{Frame};
+ghost use Rattle.std.specs.Prelude.{◌≡◌, ◌+◌, ◌<◌, ◌^◌, ◌∷◌, ◌++◌, [], OnOk, get_or};
+ghost use Rattle.crate_walk.specs.Frames.{CountsUp, GoesOn, IsCounted, here_of};
+ghost use Rattle.crate_walk.specs.Walks.{is_open};
+ghost use Rattle.crate_walk.specs.declared.step.Step.TheVariants as step;
 
 use crate::folder::Folder;
 use crate::step::Step;
@@ -31,8 +32,30 @@ pub(crate) struct Progress {
     pub(crate) frames: VecDeque<Frame>,
     /// The steps so far.
     pub(crate) steps: Vec<Step>,
+    /// How many of the modules that are begun are in each file. Files behind the last have none.
+    pub(crate) counts: Vec<usize>,
     /// How many more files may be entered.
     pub(crate) left: usize,
+}
+
+// One more module is in a file.
+fn count_up(counts: &mut Vec<usize>, file: usize) -> Result<(), AllocError>
+    requires { get_or counts.old.items file 0 < 2 ^ 63 }
+    ensures { OnOk result (CountsUp counts.old.items counts.new.items file) }
+{
+    while counts.len() <= file {
+        counts.push(0)?;
+    }
+    counts[file] += 1;
+    Ok(())
+}
+
+// One module less is in a file.
+fn count_down(counts: &mut Vec<usize>, file: usize)
+    requires { 0 < get_or counts.old.items file 0 }
+    ensures { CountsUp counts.new.items counts.old.items file }
+{
+    counts[file] -= 1;
 }
 
 impl Progress {
@@ -43,6 +66,7 @@ impl Progress {
             ≡ (record frame { next = next }) ∷ self.old.frames.items) }
         ensures table { self.new.table ≡ self.old.table }
         ensures left { self.new.left ≡ self.old.left }
+        ensures counts { self.new.counts ≡ self.old.counts }
     {
         self.steps.push(step)?;
         self.frames.push_front(Frame { next, ..frame })?;
@@ -51,19 +75,46 @@ impl Progress {
 
     /// Enters a module.
     pub(crate) fn enter(&mut self, frame: Frame) -> Result<(), AllocError>
+        requires { IsCounted self.old.counts.items self.old.frames.items }
         ensures frames { OnOk result (self.new.frames.items ≡ frame ∷ self.old.frames.items) }
+        ensures counts { OnOk result (IsCounted self.new.counts.items
+            (frame ∷ self.old.frames.items)) }
         ensures steps { self.new.steps ≡ self.old.steps }
         ensures table { self.new.table ≡ self.old.table }
         ensures left { self.new.left ≡ self.old.left }
     {
+        count_up(&mut self.counts, frame.file)?;
         self.frames.push_front(frame)?;
         Ok(())
     }
 
-    /// Whether one of the modules that are begun is in the file of this number.
-    pub(crate) fn is_open(&self, file: usize) -> bool
-        ensures { result ≡ list_any (λ (f : Frame). nat_eq f.file file) self.now.frames.items }
+    /// Leaves the innermost module, which is in this file.
+    pub(crate) fn leave(&mut self, frame: Frame) -> Result<(), AllocError>
+        requires { IsCounted self.old.counts.items (frame ∷ self.old.frames.items) }
+        ensures { OnOk result (GoesOn self.old self.new step.End self.old.frames.items
+            self.old.left) }
     {
-        self.frames.iter().any(|frame| frame.file == file)
+        count_down(&mut self.counts, frame.file);
+        self.steps.push(Step::End)?;
+        Ok(())
+    }
+
+    // How many modules are in a file.
+    fn count_of(&self, file: usize) -> usize
+        ensures { result ≡ get_or self.now.counts.items file 0 }
+    {
+        if file < self.counts.len() {
+            self.counts[file]
+        } else {
+            0
+        }
+    }
+
+    /// Whether a file is being read in this innermost frame or in one around it.
+    pub(crate) fn is_open(&self, frame: &Frame, file: usize) -> bool
+        requires { IsCounted self.now.counts.items (frame.now ∷ self.now.frames.items) }
+        ensures { result ≡ is_open (here_of frame.now self.now.frames.items) file }
+    {
+        self.count_of(file) > 0
     }
 }

@@ -1,11 +1,11 @@
 //! Walks through the modules of a crate.
 ghost use Rattle.std.specs.Prelude.{◌≡◌, ◌+◌, ◌-◌, ◌<◌, ◌++◌, ◌∷◌, [], IfOk, OnOk, length, string_bytes};
-ghost use Rattle.crate_walk.specs.Frames.{Advances, AreRead, IsContentEntry, IsEntry, IsAllowed, IsNext, IsTurn, GoesOn, Starts, Turns};
+ghost use Rattle.crate_walk.specs.Frames.{Advances, AreRead, IsContentEntry, IsEntry, IsAllowed, IsNext, IsTurn, GoesOn, IsCounted, Starts, Turns};
 ghost use Rattle.crate_walk.specs.Modules.{AreModules};
 ghost use Rattle.crate_walk.specs.Frames.{at_next, behind_inline, behind_next, file_frame, here_of, inline_frame};
 ghost use Rattle.crate_walk.specs.Seeking.{found, seen};
-ghost use Rattle.crate_walk.specs.Tables.{AddsOrFinds, AreMore, IsTable, files_in};
-ghost use Rattle.crate_walk.specs.Walks.{is_open};
+ghost use Rattle.crate_walk.specs.Tables.{AddsOrFinds, AreMore, IsTable};
+ghost use Rattle.crate_walk.specs.Files.{files_in};
 ghost use Rattle.crate_walk.specs.declared.next.Next.TheVariants as next;
 ghost use Rattle.crate_walk.specs.declared.step.Step.TheVariants as step;
 
@@ -63,13 +63,6 @@ fn content_entry(table: &Table, file: usize, folder: Folder) -> Entry
     }
 }
 
-// Whether a file is being read in this frame or in one around it.
-fn is_open(progress: &Progress, frame: &Frame, file: usize) -> bool
-    ensures { result ≡ is_open (here_of frame.now progress.now.frames.items) file }
-{
-    frame.file == file || progress.is_open(file)
-}
-
 // What a module in this frame is whose file has this name.
 fn found_entry<F: Files>(
     alloc: Global,
@@ -79,7 +72,9 @@ fn found_entry<F: Files>(
     name: String,
     folder: Folder,
 ) -> Result<Entry, AllocError>
-    requires { IsTable (F.reads files.now) (files_in progress.old.table) }
+    requires right { IsTable (F.reads files.now) (files_in progress.old.table) }
+    requires counted { IsCounted progress.old.counts.items
+        (frame.now ∷ progress.old.frames.items) }
     ensures right { OnOk result (IsTable (F.reads files.now) (files_in progress.new.table)) }
     ensures more { OnOk result (AreMore (files_in progress.old.table)
         (files_in progress.new.table)) }
@@ -88,7 +83,7 @@ fn found_entry<F: Files>(
         (here_of frame.now progress.old.frames.items) (found (string_bytes name) folder)) }
 {
     let file = file_of(alloc, files, &mut progress.table, name)?;
-    if is_open(progress, frame, file) {
+    if progress.is_open(frame, file) {
         return Ok(Entry::Lack(Lack::Cycle(file)));
     }
     let entry = content_entry(&progress.table, file, folder);
@@ -103,7 +98,9 @@ fn entry_of<F: Files>(
     frame: &Frame,
     sought: Sought,
 ) -> Result<Entry, AllocError>
-    requires { IsTable (F.reads files.now) (files_in progress.old.table) }
+    requires right { IsTable (F.reads files.now) (files_in progress.old.table) }
+    requires counted { IsCounted progress.old.counts.items
+        (frame.now ∷ progress.old.frames.items) }
     ensures right { OnOk result (IsTable (F.reads files.now) (files_in progress.new.table)) }
     ensures more { OnOk result (AreMore (files_in progress.old.table)
         (files_in progress.new.table)) }
@@ -130,7 +127,8 @@ fn place_of(frame: &Frame) -> Place
 
 // Passes over a module in a file of its own.
 fn pass_over(progress: &mut Progress, frame: Frame, why: Lack) -> Result<(), AllocError>
-    requires { frame.next < frame.last }
+    requires next { frame.next < frame.last }
+    requires counted { IsCounted progress.old.counts.items (frame ∷ progress.old.frames.items) }
     ensures { OnOk result (GoesOn progress.old progress.new (step.Lack (at_next frame) why)
         (behind_next frame ∷ progress.old.frames.items) progress.old.left) }
 {
@@ -141,7 +139,8 @@ fn pass_over(progress: &mut Progress, frame: Frame, why: Lack) -> Result<(), All
 
 // Passes an event that is no module.
 fn pass_item(progress: &mut Progress, frame: Frame) -> Result<(), AllocError>
-    requires { frame.next < frame.last }
+    requires next { frame.next < frame.last }
+    requires counted { IsCounted progress.old.counts.items (frame ∷ progress.old.frames.items) }
     ensures { OnOk result (GoesOn progress.old progress.new (step.Item (at_next frame))
         (behind_next frame ∷ progress.old.frames.items) progress.old.left) }
 {
@@ -157,7 +156,8 @@ fn enter_inline(
     folder: Folder,
     count: usize,
 ) -> Result<(), AllocError>
-    requires { frame.next < frame.last }
+    requires next { frame.next < frame.last }
+    requires counted { IsCounted progress.old.counts.items (frame ∷ progress.old.frames.items) }
     ensures { OnOk result (GoesOn progress.old progress.new (step.Inline (at_next frame))
         (inline_frame frame folder count ∷ (behind_inline frame count ∷ progress.old.frames.items))
         progress.old.left) }
@@ -185,6 +185,7 @@ fn enter_file(
 ) -> Result<(), AllocError>
     requires next { frame.next < frame.last }
     requires left { 0 < progress.old.left }
+    requires counted { IsCounted progress.old.counts.items (frame ∷ progress.old.frames.items) }
     ensures { OnOk result (GoesOn progress.old progress.new (step.File (at_next frame) file)
         (file_frame file folder count ∷ (behind_next frame ∷ progress.old.frames.items))
         (progress.old.left - 1)) }
@@ -214,6 +215,7 @@ fn enter_outline<F: Files>(
     requires left { 0 < progress.old.left }
     requires right { IsTable (F.reads files.now) (files_in progress.old.table) }
     requires read { AreRead (files_in progress.old.table) (frame ∷ progress.old.frames.items) }
+    requires counted { IsCounted progress.old.counts.items (frame ∷ progress.old.frames.items) }
     ensures { OnOk result (Turns (F.finds files.now) (F.reads files.now)
         (frame ∷ progress.old.frames.items) progress.old progress.new) }
 {
@@ -235,11 +237,12 @@ fn advance<F: Files>(
     requires left { IsAllowed next progress.old.left }
     requires right { IsTable (F.reads files.now) (files_in progress.old.table) }
     requires read { AreRead (files_in progress.old.table) (frame ∷ progress.old.frames.items) }
+    requires counted { IsCounted progress.old.counts.items (frame ∷ progress.old.frames.items) }
     ensures { OnOk result (Turns (F.finds files.now) (F.reads files.now)
         (frame ∷ progress.old.frames.items) progress.old progress.new) }
 {
     match next {
-        Next::End => Ok(progress.steps.push(Step::End)?),
+        Next::End => progress.leave(frame),
         Next::Item => pass_item(progress, frame),
         Next::Inline(folder, count) => enter_inline(progress, frame, folder, count),
         Next::Outline(sought) => enter_outline(alloc, files, progress, frame, sought),
@@ -251,6 +254,7 @@ fn advance<F: Files>(
 fn turn<F: Files>(alloc: Global, files: &F, progress: &mut Progress) -> Result<bool, AllocError>
     requires right { IsTable (F.reads files.now) (files_in progress.old.table) }
     requires read { AreRead (files_in progress.old.table) progress.old.frames.items }
+    requires counted { IsCounted progress.old.counts.items progress.old.frames.items }
     ensures { IfOk result (IsTurn (F.finds files.now) (F.reads files.now) progress.old
         progress.new) }
 {
@@ -266,6 +270,7 @@ fn turn<F: Files>(alloc: Global, files: &F, progress: &mut Progress) -> Result<b
 fn run<F: Files>(alloc: Global, files: &F, progress: &mut Progress) -> Result<(), AllocError>
     requires right { IsTable (F.reads files.now) (files_in progress.old.table) }
     requires read { AreRead (files_in progress.old.table) progress.old.frames.items }
+    requires counted { IsCounted progress.old.counts.items progress.old.frames.items }
     ensures advances { OnOk result (Advances (F.finds files.now) progress.old.frames.items
         progress.old progress.new) }
     ensures right { OnOk result (IsTable (F.reads files.now) (files_in progress.new.table)) }
@@ -293,19 +298,20 @@ fn start<F: Files>(
     let last = content.events().len();
     let mut table = Table::new(alloc);
     let file = table.add(name, content)?;
-    let mut frames = VecDeque::new(alloc);
-    frames.push_front(Frame {
+    let mut progress = Progress {
+        table,
+        frames: VecDeque::new(alloc),
+        steps: Vec::new(alloc),
+        counts: Vec::new(alloc),
+        left: most,
+    };
+    progress.enter(Frame {
         file,
         next: 0,
         last,
         folder,
     })?;
-    Ok(Progress {
-        table,
-        frames,
-        steps: Vec::new(alloc),
-        left: most,
-    })
+    Ok(progress)
 }
 
 /// The modules of the crate whose root has this path, in order, and the files that were read. At

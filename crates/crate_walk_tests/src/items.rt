@@ -25,52 +25,88 @@ fn items(alloc: Global, text: &str) -> Result<String, Fail> {
 
 #[test]
 fn modules(rt: HostRuntime) -> Result<(), Fail> {
-    let told = items(rt.alloc(), "mod a; #[macro_use] pub(crate) mod b; #[path = \"x/y.rs\"] mod r#c; mod d {} fn f() { mod e; }")?;
-    assert_eq!(rt; told.as_str(), "mod a\nmod b kept\nmod c by x/y.rs\nmod d of 0\n");
+    let told = items(
+        rt.alloc(),
+        "mod a; #[macro_use] pub(crate) mod b; #[path = \"x/y.rs\"] mod r#c; mod d {} fn f() { mod e; }",
+    )?;
+    assert_eq!(rt;
+        told.as_str(),
+        "mod a\nmod b kept\nmod c by x/y.rs\nmod d of 0\n"
+    );
     Ok(())
 }
 
 #[test]
 fn inline_modules(rt: HostRuntime) -> Result<(), Fail> {
-    let told = items(rt.alloc(), "mod a { mod b { mod c; } macro_rules! m { () => {} } } mod d;")?;
-    assert_eq!(rt; told.as_str(), "mod a of 3\nmod b of 1\nmod c\nmacro_rules m\nmod d\n");
+    let told = items(
+        rt.alloc(),
+        "mod a { mod b { mod c; } macro_rules! m { () => {} } } mod d;",
+    )?;
+    assert_eq!(rt;
+        told.as_str(),
+        "mod a of 3\nmod b of 1\nmod c\nmacro_rules m\nmod d\n"
+    );
     Ok(())
 }
 
 #[test]
 fn conditions(rt: HostRuntime) -> Result<(), Fail> {
-    let told = items(rt.alloc(), "#[cfg(windows)] mod a; #[cfg(unix)] mod b; #[cfg(not(unix))] mod c { mod d; }
-         #[cfg_attr(unix, cfg(feature = \"std\"))] mod e; #[cfg(any())] macro_rules! m { () => {} }")?;
+    let told = items(
+        rt.alloc(),
+        "#[cfg(windows)] mod a; #[cfg(unix)] mod b; #[cfg(not(unix))] mod c { mod d; }
+         #[cfg_attr(unix, cfg(feature = \"std\"))] mod e; #[cfg(any())] macro_rules! m { () => {} }",
+    )?;
     assert_eq!(rt; told.as_str(), "mod b\nmod e\n");
     Ok(())
 }
 
 #[test]
 fn definitions(rt: HostRuntime) -> Result<(), Fail> {
-    let told = items(rt.alloc(), "/// A.\n#[macro_export] macro_rules! a { () => {} } macro_rules! b(() => {}); pub macro c() {}")?;
-    assert_eq!(rt; told.as_str(), "exported macro_rules a\nmacro_rules b\nmacro c\n");
+    let told = items(
+        rt.alloc(),
+        "/// A.\n#[macro_export] macro_rules! a { () => {} } macro_rules! b(() => {}); pub macro c() {}",
+    )?;
+    assert_eq!(rt;
+        told.as_str(),
+        "exported macro_rules a\nmacro_rules b\nmacro c\n"
+    );
     Ok(())
 }
 
 #[test]
 fn other_crates(rt: HostRuntime) -> Result<(), Fail> {
-    let told = items(rt.alloc(), "extern crate a; #[macro_use(x, y)] extern crate b; pub extern crate c as d; extern \"C\" {}")?;
+    let told = items(
+        rt.alloc(),
+        "extern crate a; #[macro_use(x, y)] extern crate b; pub extern crate c as d; extern \"C\" {}",
+    )?;
     assert_eq!(rt; told.as_str(), "crate a\ncrate b kept\ncrate c as d\n");
     Ok(())
 }
 
 #[test]
 fn uses(rt: HostRuntime) -> Result<(), Fail> {
-    let told = items(rt.alloc(), "use a; use a::b; use ::a::b as c; pub use self::m; use a::{self, b::{c as d, e}, f::*,}; use a::T as _;")?;
-    assert_eq!(rt; told.as_str(), "use a as a\nuse a::b as b\nuse ::a::b as c\npub use self::m as m\n\
-         use a as a\nuse a::b::c as d\nuse a::b::e as e\nuse a::f all\n");
+    let told = items(
+        rt.alloc(),
+        "use a; use a::b; use ::a::b as c; pub use self::m; use a::{self, b::{c as d, e}, f::*,}; use a::T as _;",
+    )?;
+    assert_eq!(rt;
+        told.as_str(),
+        "use a as a\nuse a::b as b\nuse ::a::b as c\npub use self::m as m\n\
+         use a as a\nuse a::b::c as d\nuse a::b::e as e\nuse a::f all\n"
+    );
     Ok(())
 }
 
 #[test]
 fn uses_in_braces_alone(rt: HostRuntime) -> Result<(), Fail> {
-    let told = items(rt.alloc(), "use {a, b::c}; pub(crate) use crate::m; use super::*; use crate::{};")?;
-    assert_eq!(rt; told.as_str(), "use a as a\nuse b::c as c\npub use crate::m as m\nuse super all\n");
+    let told = items(
+        rt.alloc(),
+        "use {a, b::c}; pub(crate) use crate::m; use super::*; use crate::{};",
+    )?;
+    assert_eq!(rt;
+        told.as_str(),
+        "use a as a\nuse b::c as c\npub use crate::m as m\nuse super all\n"
+    );
     Ok(())
 }
 

@@ -47,7 +47,11 @@ fn push_import(text: &mut String, import: &ImportItem) -> Result<(), AllocError>
 }
 
 /// An event.
-pub(crate) fn push_event(alloc: Global, text: &mut String, event: &Event) -> Result<(), AllocError> {
+pub(crate) fn push_event(
+    alloc: Global,
+    text: &mut String,
+    event: &Event,
+) -> Result<(), AllocError> {
     match event {
         Event::Outline(item) => push_module(text, item),
         Event::Inline(item, count) => {
@@ -59,7 +63,11 @@ pub(crate) fn push_event(alloc: Global, text: &mut String, event: &Event) -> Res
             if item.is_exported {
                 text.push_str("exported ")?;
             }
-            text.push_str(if item.is_macro { "macro " } else { "macro_rules " })?;
+            text.push_str(if item.is_macro {
+                "macro "
+            } else {
+                "macro_rules "
+            })?;
             text.push_str(item.name.as_str())
         }
         Event::Import(import) => push_import(text, import),
@@ -100,7 +108,12 @@ pub(crate) fn content_told(alloc: Global, content: &Content) -> Result<String, A
 }
 
 // The event at a place.
-fn push_at(alloc: Global, text: &mut String, modules: &Modules, place: Place) -> Result<(), AllocError> {
+fn push_at(
+    alloc: Global,
+    text: &mut String,
+    modules: &Modules,
+    place: Place,
+) -> Result<(), AllocError> {
     match modules.event(place) {
         Some(event) => push_event(alloc, text, event),
         None => text.push_str("no event"),
@@ -120,7 +133,12 @@ fn push_lack(alloc: Global, text: &mut String, why: Lack) -> Result<(), AllocErr
 }
 
 // A step.
-fn push_step(alloc: Global, text: &mut String, modules: &Modules, step: Step) -> Result<(), AllocError> {
+fn push_step(
+    alloc: Global,
+    text: &mut String,
+    modules: &Modules,
+    step: Step,
+) -> Result<(), AllocError> {
     match step {
         Step::Item(place) => push_at(alloc, text, modules, place),
         Step::Inline(place) => {

@@ -7,12 +7,7 @@ use std::alloc::Global;
 use std::test::Fail;
 
 // The steps of the walk through these files from a root.
-fn walked(
-    alloc: Global,
-    root: &str,
-    most: usize,
-    entries: &[Entry<'_>],
-) -> Result<String, Fail> {
+fn walked(alloc: Global, root: &str, most: usize, entries: &[Entry<'_>]) -> Result<String, Fail> {
     let options = CfgOptions::new(alloc);
     let files = Listed {
         entries,
@@ -45,8 +40,7 @@ fn files_and_folders(rt: HostRuntime) -> Result<(), Fail> {
             file("src/b/d.rs", ""),
         ],
     )?;
-    assert_eq!(
-        rt;
+    assert_eq!(rt;
         told.as_str(),
         "mod a in src/a.rs {\nmod c in src/a/c.rs {\nuse super::x as x\n}\n}\nmacro_rules m\n\
          mod b in src/b/mod.rs {\nmod d in src/b/d.rs {\n}\n}\n}\n",
@@ -61,8 +55,14 @@ fn paths(rt: HostRuntime) -> Result<(), Fail> {
         "src/lib.rs",
         9,
         &[
-            file("src/lib.rs", "mod a; #[path = \"t\"] mod t { #[path = \"l.rs\"] mod l; }"),
-            file("src/a.rs", "#[path = \"o.rs\"] mod o; mod i { #[path = \"o.rs\"] mod o; mod p; }"),
+            file(
+                "src/lib.rs",
+                "mod a; #[path = \"t\"] mod t { #[path = \"l.rs\"] mod l; }",
+            ),
+            file(
+                "src/a.rs",
+                "#[path = \"o.rs\"] mod o; mod i { #[path = \"o.rs\"] mod o; mod p; }",
+            ),
             file("src/o.rs", "mod n;"),
             file("src/n.rs", ""),
             file("src/a/i/o.rs", ""),
@@ -70,8 +70,7 @@ fn paths(rt: HostRuntime) -> Result<(), Fail> {
             file("src/t/l.rs", ""),
         ],
     )?;
-    assert_eq!(
-        rt;
+    assert_eq!(rt;
         told.as_str(),
         "mod a in src/a.rs {\nmod o by o.rs in src/o.rs {\nmod n in src/n.rs {\n}\n}\n\
          mod i of 2 {\nmod o by o.rs in src/a/i/o.rs {\n}\nmod p in src/a/i/p.rs {\n}\n}\n}\n\
@@ -87,15 +86,17 @@ fn lacks(rt: HostRuntime) -> Result<(), Fail> {
         "lib.rs",
         9,
         &[
-            file("lib.rs", "mod a; mod b; #[path = \"lib.rs\"] mod c; mod d; mod e;"),
+            file(
+                "lib.rs",
+                "mod a; mod b; #[path = \"lib.rs\"] mod c; mod d; mod e;",
+            ),
             file("b.rs", ""),
             file("b/mod.rs", ""),
             file("d.rs", ")"),
             link("e.rs", "lib.rs"),
         ],
     )?;
-    assert_eq!(
-        rt;
+    assert_eq!(rt;
         told.as_str(),
         "mod a missing\nmod b twice\nmod c by lib.rs in itself, 0\nmod d unread, 1\n\
          mod e in itself, 0\n}\n",
@@ -110,13 +111,15 @@ fn a_file_of_two_modules_is_entered_twice(rt: HostRuntime) -> Result<(), Fail> {
         "lib.rs",
         9,
         &[
-            file("lib.rs", "#[path = \"x.rs\"] mod a; #[path = \"x.rs\"] mod b;"),
+            file(
+                "lib.rs",
+                "#[path = \"x.rs\"] mod a; #[path = \"x.rs\"] mod b;",
+            ),
             file("x.rs", "mod c;"),
             file("c.rs", ""),
         ],
     )?;
-    assert_eq!(
-        rt;
+    assert_eq!(rt;
         told.as_str(),
         "mod a by x.rs in x.rs {\nmod c in c.rs {\n}\n}\nmod b by x.rs in x.rs {\n\
          mod c in c.rs {\n}\n}\n}\n",
@@ -130,10 +133,13 @@ fn too_many(rt: HostRuntime) -> Result<(), Fail> {
         rt.alloc(),
         "lib.rs",
         1,
-        &[file("lib.rs", "mod a; mod b; mod c {}"), file("a.rs", ""), file("b.rs", "")],
+        &[
+            file("lib.rs", "mod a; mod b; mod c {}"),
+            file("a.rs", ""),
+            file("b.rs", ""),
+        ],
     )?;
-    assert_eq!(
-        rt;
+    assert_eq!(rt;
         told.as_str(),
         "mod a in a.rs {\n}\nmod b too many\nmod c of 0 {\n}\n}\n",
     );

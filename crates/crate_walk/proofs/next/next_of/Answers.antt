@@ -3,7 +3,7 @@ use Rattle.std.proofs.Common.{sym}
 use Rattle.std.proofs.lemmas.Result.{IfOk-weaker}
 use Rattle.crate_walk.proofs.WalkLemmas.{next_from}
 use Rattle.crate_walk.specs.Frames.{IsNext, IsNextOf}
-use Rattle.crate_walk.specs.Tables.{files_in}
+use Rattle.crate_walk.specs.Files.{files_in}
 use Rattle.crate_walk.proofs.next.next_of.Goals as goal
 
 pub returns-in-Some-clause-next : goal.returns-in-Some-clause-next

@@ -1,15 +1,13 @@
 -- Each step leads on.
-use Rattle.std.proofs.Common.{refl}
 use Rattle.std.proofs.lemmas.Result.{on_ok_weaker}
 use Rattle.crate_walk.proofs.WalkLemmas.{turn_end, turn_full, turn_inline, turn_item}
 use Rattle.crate_walk.proofs.walk.advance.Goals as goal
 
-pub returns-in_ok-push-in-End : goal.returns-in_ok-push-in-End
-returns-in_ok-push-in-End g c =
-    turn_end (g.F.Files.finds c.args.files.now) (g.F.Files.reads c.args.files.now)
-    c.args.progress.now (record c.args.progress.now { steps = c.push.new.self }) c.args.frame
-    c.requires.right c.requires.read (rw c.in-End.is at c.requires.next)
-    (record { steps = c.in_ok-push-in-End.ensures.items; frames = refl; table = refl; left = refl })
+pub returns-in-End : goal.returns-in-End
+returns-in-End g c = on_ok_weaker c.leave.result
+    (turn_end (g.F.Files.finds c.args.files.now) (g.F.Files.reads c.args.files.now)
+    c.args.progress.now c.leave.new.self c.args.frame
+    c.requires.right c.requires.read (rw c.in-End.is at c.requires.next)) c.leave.ensures
 
 pub returns-in-Item : goal.returns-in-Item
 returns-in-Item g c = on_ok_weaker c.pass_item.result

@@ -1,7 +1,8 @@
 -- A file of a new name is added.
 use Rattle.std.specs.Prelude.{string_bytes}
 use Rattle.std.proofs.lemmas.Result.{IfOk-weaker}
-use Rattle.crate_walk.specs.Tables.{Adds, AddsOrFinds, IsTable, files_in}
+use Rattle.crate_walk.specs.Tables.{Adds, AddsOrFinds, IsTable}
+use Rattle.crate_walk.specs.Files.{files_in}
 use Rattle.crate_walk.proofs.TableLemmas.{adds_number, table_more}
 use Rattle.crate_walk.proofs.walk.file_of.Goals as goal
 

@@ -10,6 +10,7 @@ loop-preserved g c =
           c.args.progress.now.frames.items c.args.progress.now c.loop.progress c.turn.new.progress
           c.loop.invariant.advances turns.advances;
       right = turns.right;
+      counted = turns.counted;
     }
 
 pub returns-then-not-branch-clause-advances : goal.returns-then-not-branch-clause-advances
