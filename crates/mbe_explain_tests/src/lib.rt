@@ -1,8 +1,11 @@
-//! Tests of the public calls of `mbe_explain`, run from text: `bridge` reads a definition and the
-//! argument of a call. The places are those that rustc 1.95 names.
+//! Tests of the public calls of `mbe_explain` and `call_messages`, run from text: `bridge` reads a
+//! definition and the argument of a call, or a whole text. The places are those that rustc 1.95
+//! names.
 #![tactic(auto)]
 
 #[cfg(test)]
 mod calls;
+#[cfg(test)]
+mod messages;
 #[cfg(test)]
 mod texts;

@@ -10,7 +10,7 @@ use std::test::Fail;
 use tt::{Edition, SyntaxContext, TopSubtree};
 
 /// The trees of a text that is short and has no reading fault.
-fn tree(alloc: Global, text: &str) -> Result<TopSubtree, Fail> {
+pub(crate) fn tree(alloc: Global, text: &str) -> Result<TopSubtree, Fail> {
     if text.len() >= 100_000 {
         return Err(Fail::new("a text is long"));
     }

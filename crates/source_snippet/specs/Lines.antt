@@ -1,6 +1,6 @@
 -- The line of a text in which a byte is.
 use Rattle.std.specs.Prelude.{◌≡◌, ◌≢◌, ℕ, ◌+◌, ◌-◌, ◌≤◌, ◌<◌, ◌⊎◌, List, length, min, chars}
-use Rattle.std.specs.Prelude.{slice_index, slice_range}
+use Rattle.std.specs.Prelude.{◌==◌, count_by, slice_index, slice_range, take}
 use Rattle.source_snippet.specs.Underlines.{part}
 
 -- a line from one byte ends at another: with the text; before a line feed, with no carriage return
@@ -21,6 +21,10 @@ pub record IsLineAt (text : List ℕ) (at start : ℕ) (line : List ℕ) : Type 
   pub ends : EndsAt text start (start + length line)
   pub one : (k : ℕ) → start ≤ k → k < start + length line → slice_index text k ≢ 10
   pub no_other : (k : ℕ) → start ≤ k → k < min at (length text) → slice_index text k ≢ 10
+
+-- the number of the line in which a byte is, from 1: one more than the line feeds before it
+abbrev pub line_number : List ℕ → ℕ → ℕ
+line_number text at = count_by (λ b. b == 10) (take at text) + 1
 
 -- the column of a byte of a line in characters, from 1
 abbrev pub column_in : List ℕ → ℕ → ℕ

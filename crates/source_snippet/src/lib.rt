@@ -9,5 +9,5 @@ mod shown;
 mod underline;
 
 pub use layout::push_message;
-pub use line::{Line, column_in, line_at};
+pub use line::{Line, column_in, line_at, line_number};
 pub use message::{Label, Quoted, Range, Rank, Section};

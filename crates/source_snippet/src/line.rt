@@ -1,6 +1,6 @@
 //! The line of a text in which a byte is.
 ghost use Rattle.std.specs.Prelude.{◌≡◌, ◌≢◌, ◌≤◌, ◌<◌, ◌⊎◌, ◌-◌, ℕ, length, slice_index};
-ghost use Rattle.source_snippet.specs.Lines.{EndsAt, IsLineAt, column_in};
+ghost use Rattle.source_snippet.specs.Lines.{EndsAt, IsLineAt, column_in, line_number};
 
 use crate::underline::part;
 
@@ -72,6 +72,22 @@ pub fn line_at(text: &str, at: usize) -> Line<'_>
         start,
         text: &text[start..end],
     }
+}
+
+/// The number of the line in which a byte is, from 1. A byte past the end of the text is taken as
+/// the end.
+pub fn line_number(text: &str, at: usize) -> usize
+    ensures { result ≡ line_number text.now at }
+{
+    let bytes = text.as_bytes();
+    let end = at.min(bytes.len());
+    let mut number = 1;
+    for byte in &bytes[..end] {
+        if *byte == b'\n' {
+            number += 1;
+        }
+    }
+    number
 }
 
 /// The column of a byte of a line in characters, from 1. It is 1 for a byte that is not between
