@@ -7,7 +7,7 @@ use Rattle.crate_walk.specs.Seeking.{Finding, found, IsSought, seen}
 use Rattle.crate_walk.specs.Tables.{AreMore, IsTable}
 use Rattle.crate_walk.specs.Files.{files_in}
 use Rattle.crate_walk.specs.Walks.{Here, Walks, IsLacking, end_of, entered, is_cut, is_item, is_open, is_text}
-use Rattle.crate_walk.specs.declared.content.Content.{Content}
+use Rattle.crate_walk.specs.declared.files.Content.{Content}
 use Rattle.crate_walk.specs.declared.event.Event.{Event}
 use Rattle.crate_walk.specs.declared.walk.Entry.{Entry}
 use Rattle.crate_walk.specs.declared.walk.Entry.TheVariants as entry
