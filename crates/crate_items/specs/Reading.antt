@@ -5,9 +5,9 @@ use Rattle.bridge.specs.TokenSteps.{text_reading, text_steps}
 use Rattle.bridge.specs.declared.reading.outcome.ReadFault.{ReadFault}
 use Rattle.cfg_options.specs.Conditions.{Options}
 use Rattle.crate_items.specs.Items.{items_of_events, text_items}
-use Rattle.crate_walk.specs.declared.content.Content.{Content}
-use Rattle.crate_walk.specs.declared.content.Content.TheVariants.{Text, Unread}
-use Rattle.crate_walk.specs.declared.content.Unread.TheVariants as unread
+use Rattle.crate_walk.specs.declared.files.Content.{Content}
+use Rattle.crate_walk.specs.declared.files.Content.TheVariants.{Text, Unread}
+use Rattle.crate_walk.specs.declared.files.Unread.TheVariants as unread
 use Rattle.tt_data.specs.Forest.{Forest}
 
 -- a file with this text has this: the text and its items, or why they cannot be read

@@ -52,7 +52,8 @@ pub(crate) fn macro_in(alloc: Global, piece: &TtIter<'_>) -> Result<Option<Macro
 
 // The text of a name that may be missing.
 fn text_if(alloc: Global, name: Option<Ident>) -> Result<Option<String>, AllocError>
-    ensures { IfOk result (λ t. option_map string_bytes t ≡ option_map (λ (i : Ident). i.sym) name) }
+    ensures { IfOk result (λ t. option_map string_bytes t
+        ≡ option_map (λ (i : Ident). i.sym) name) }
 {
     match name {
         Some(name) => Ok(Some(text(alloc, &name)?)),

@@ -11,7 +11,7 @@ use Rattle.std.proofs.lemmas.Slice.Eq.{bytes_eq-Decides}
 use Rattle.crate_walk.specs.Tables.{Adds, AddsOrFinds, HasName, IsTable}
 use Rattle.crate_walk.specs.Files.{files_in}
 use Rattle.indexmap.specs.IndexSet.{contains_text}
-use Rattle.crate_walk.specs.declared.content.Content.{Content}
+use Rattle.crate_walk.specs.declared.files.Content.{Content}
 use Rattle.crate_walk.specs.declared.table.Table.{Table}
 
 -- at the index that `position` gives stands a value that passes the test

@@ -13,7 +13,7 @@ use Rattle.crate_walk.specs.Tables.{AreMore, IsTable}
 use Rattle.crate_walk.specs.Files.{files_in}
 use Rattle.crate_walk.specs.Walks.{Here, IsFile, IsLacking, IsWalk, Lacks, Walks, end_of, entered, in_module, is_cut, is_item}
 use Rattle.crate_walk.specs.Walks.Walks.{ends, item, inline, file, passed}
-use Rattle.crate_walk.specs.declared.content.Content.{Content}
+use Rattle.crate_walk.specs.declared.files.Content.{Content}
 use Rattle.crate_walk.specs.declared.event.Event.{Event}
 use Rattle.crate_walk.specs.declared.event.Event.TheVariants as event
 use Rattle.crate_walk.specs.declared.event.ModuleItem.{ModuleItem}

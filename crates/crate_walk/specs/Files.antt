@@ -1,8 +1,8 @@
 -- The files of a crate that were read, and what they declare.
 use Rattle.std.specs.Prelude.{map, string_bytes, ℕ, nat_lt, List, [], Option, None, option_and_then, if◌then◌else◌}
 use Rattle.std.specs.List.{slice_get}
-use Rattle.crate_walk.specs.declared.content.Content.{Content}
-use Rattle.crate_walk.specs.declared.content.Content.TheVariants.{Text, Unread}
+use Rattle.crate_walk.specs.declared.files.Content.{Content}
+use Rattle.crate_walk.specs.declared.files.Content.TheVariants.{Text, Unread}
 use Rattle.crate_walk.specs.declared.event.Event.{Event}
 use Rattle.crate_walk.specs.declared.step.Place.{Place}
 use Rattle.crate_walk.specs.declared.table.Table.{Table}

@@ -7,7 +7,7 @@ use Rattle.crate_walk.specs.Seeking.{Finding, found, IsSought, seen}
 use Rattle.crate_walk.specs.Tables.{AreMore, IsTable}
 use Rattle.crate_walk.specs.Files.{files_in}
 use Rattle.crate_walk.specs.Walks.{Here, Walks, IsLacking, end_of, entered, is_cut, is_item, is_open, is_text}
-use Rattle.crate_walk.specs.declared.content.Content.{Content}
+use Rattle.crate_walk.specs.declared.files.Content.{Content}
 use Rattle.crate_walk.specs.declared.event.Event.{Event}
 use Rattle.crate_walk.specs.declared.walk.Entry.{Entry}
 use Rattle.crate_walk.specs.declared.walk.Entry.TheVariants as entry
@@ -121,7 +121,8 @@ module _ (finds : List ℕ → Option (List ℕ) → Type 0) where
   abbrev pub Completes : Files → List Frame → List Step → Type 0
   Completes files [] steps = steps ≡ []
   Completes files (f ∷ fs) steps =
-      (inner : List Step) × (rest : List Step) × Walks finds files (here_of f fs) f.next f.last inner
+      (inner : List Step) × (rest : List Step)
+      × Walks finds files (here_of f fs) f.next f.last inner
       × (steps ≡ inner ++ step.End ∷ rest) × Completes files fs rest
 
   -- what completes the new state completes the old one, behind the steps that were made
@@ -158,7 +159,8 @@ module _ (finds : List ℕ → Option (List ℕ) → Type 0) where
   -- what the module of a frame is whose file was so found
   abbrev pub IsEntry : Files → Here → Finding → Entry → Type 0
   IsEntry files h s (entry.File k n folder) =
-      (name : List ℕ) × (c : Content) × (s ≡ found name folder) × (slice_get files.names k ≡ Some name)
+      (name : List ℕ) × (c : Content) × (s ≡ found name folder)
+      × (slice_get files.names k ≡ Some name)
       × (slice_get files.contents k ≡ Some c) × (is_text c ≡ Bool.true)
       × (n ≡ length (events_of c)) × (is_open h k ≡ Bool.false)
   IsEntry files h s (entry.Lack why) = IsLacking finds files h s why

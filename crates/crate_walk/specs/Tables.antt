@@ -2,7 +2,7 @@
 use Rattle.std.specs.Prelude.{◌≡◌, ℕ, ◌<◌, ◌≤◌, List, [], ◌∷◌, ◌++◌, length, Some}
 use Rattle.std.specs.List.{slice_get}
 use Rattle.crate_walk.specs.Files.{Files, files_in}
-use Rattle.crate_walk.specs.declared.content.Content.{Content}
+use Rattle.crate_walk.specs.declared.files.Content.{Content}
 use Rattle.crate_walk.specs.declared.table.Table.{Table}
 
 -- later files: those that were read before are among them

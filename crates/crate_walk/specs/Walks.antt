@@ -4,8 +4,8 @@ use Rattle.std.specs.List.{list_any, slice_get}
 use Rattle.crate_walk.specs.Files.{Files, event_in, events_of}
 use Rattle.crate_walk.specs.Folders.{Folder, inside, root_folder}
 use Rattle.crate_walk.specs.Seeking.{Finding, missing, ambiguous, found, IsSought}
-use Rattle.crate_walk.specs.declared.content.Content.{Content}
-use Rattle.crate_walk.specs.declared.content.Content.TheVariants as content
+use Rattle.crate_walk.specs.declared.files.Content.{Content}
+use Rattle.crate_walk.specs.declared.files.Content.TheVariants as content
 use Rattle.crate_walk.specs.declared.event.Event.{Event}
 use Rattle.crate_walk.specs.declared.event.Event.TheVariants as event
 use Rattle.crate_walk.specs.declared.event.ModuleItem.{ModuleItem}

@@ -1,7 +1,6 @@
 //! A crate from its root: where the files of modules are, and the modules in order.
 #![tactic(auto)]
 
-mod content;
 mod event;
 mod files;
 mod folder;
@@ -14,9 +13,8 @@ mod step;
 mod table;
 mod walk;
 
-pub use content::{Content, Unread};
 pub use event::{CrateItem, Event, ImportItem, MacroItem, ModuleItem};
-pub use files::Files;
+pub use files::{Content, Files, Unread};
 pub use folder::Folder;
 pub use modules::Modules;
 pub use scope::{Picks, textual_picks};

@@ -4,8 +4,8 @@ ghost use Rattle.std.specs.List.{slice_get};
 ghost use Rattle.crate_walk.specs.Files.{event_of};
 ghost use Rattle.crate_walk.specs.Modules.{files_of, steps_of};
 
-use crate::content::Content;
 use crate::event::Event;
+use crate::files::Content;
 use crate::step::{Place, Step};
 use crate::table::Table;
 

@@ -191,7 +191,8 @@ fn at_root(alloc: Global) -> Result<Marked, AllocError>
 
 /// The definitions of other files that each file sees by their places, in the order in which the
 /// files end: those in scope at its end. A definition that comes into scope in the middle of the
-/// file is among them. A file that is entered twice is there twice. Out of memory is the only error.
+/// file is among them. A file that is entered twice is there twice. Out of memory is the only
+/// error.
 pub fn textual_picks(alloc: Global, modules: &Modules) -> Result<Vec<Picks>, AllocError>
     ensures { IfOk result (λ p. all_picks p
         ≡ picks_from (files_of modules.now) at_root (steps_of modules.now)) }

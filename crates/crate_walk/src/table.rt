@@ -3,7 +3,7 @@ ghost use Rattle.std.specs.Prelude.{◌≡◌, ◌++◌, ◌∷◌, [], false, I
 ghost use Rattle.indexmap.specs.IndexSet.{contains_text};
 ghost use Rattle.crate_walk.specs.Tables.{Adds, HasName};
 
-use crate::content::Content;
+use crate::files::Content;
 use indexmap::IndexSet;
 use std::alloc::{AllocError, Global};
 

@@ -9,8 +9,7 @@ ghost use Rattle.crate_walk.specs.Files.{files_in};
 ghost use Rattle.crate_walk.specs.declared.next.Next.TheVariants as next;
 ghost use Rattle.crate_walk.specs.declared.step.Step.TheVariants as step;
 
-use crate::content::Content;
-use crate::files::Files;
+use crate::files::{Content, Files};
 use crate::folder::Folder;
 use crate::modules::Modules;
 use crate::next::{Next, next_of};

@@ -27,7 +27,8 @@ fn items(alloc: Global, text: &str) -> Result<String, Fail> {
 fn modules(rt: HostRuntime) -> Result<(), Fail> {
     let told = items(
         rt.alloc(),
-        "mod a; #[macro_use] pub(crate) mod b; #[path = \"x/y.rs\"] mod r#c; mod d {} fn f() { mod e; }",
+        "mod a; #[macro_use] pub(crate) mod b; #[path = \"x/y.rs\"] mod r#c; mod d {} fn \
+         f() { mod e; }",
     )?;
     assert_eq!(rt;
         told.as_str(),
@@ -64,7 +65,8 @@ fn conditions(rt: HostRuntime) -> Result<(), Fail> {
 fn definitions(rt: HostRuntime) -> Result<(), Fail> {
     let told = items(
         rt.alloc(),
-        "/// A.\n#[macro_export] macro_rules! a { () => {} } macro_rules! b(() => {}); pub macro c() {}",
+        "/// A.\n#[macro_export] macro_rules! a { () => {} } macro_rules! b(() => {}); \
+         pub macro c() {}",
     )?;
     assert_eq!(rt;
         told.as_str(),
@@ -77,7 +79,8 @@ fn definitions(rt: HostRuntime) -> Result<(), Fail> {
 fn other_crates(rt: HostRuntime) -> Result<(), Fail> {
     let told = items(
         rt.alloc(),
-        "extern crate a; #[macro_use(x, y)] extern crate b; pub extern crate c as d; extern \"C\" {}",
+        "extern crate a; #[macro_use(x, y)] extern crate b; pub extern crate c as d; \
+         extern \"C\" {}",
     )?;
     assert_eq!(rt; told.as_str(), "crate a\ncrate b kept\ncrate c as d\n");
     Ok(())
@@ -87,7 +90,8 @@ fn other_crates(rt: HostRuntime) -> Result<(), Fail> {
 fn uses(rt: HostRuntime) -> Result<(), Fail> {
     let told = items(
         rt.alloc(),
-        "use a; use a::b; use ::a::b as c; pub use self::m; use a::{self, b::{c as d, e}, f::*,}; use a::T as _;",
+        "use a; use a::b; use ::a::b as c; pub use self::m; use a::{self, b::{c as d, e}, \
+         f::*,}; use a::T as _;",
     )?;
     assert_eq!(rt;
         told.as_str(),

@@ -1,5 +1,8 @@
 //! Events and steps as text.
-use crate_walk::{Content, Event, ImportItem, Lack, ModuleItem, Modules, Place, Step, Unread};
+use crate_walk::{
+    Content, CrateItem, Event, ImportItem, Lack, MacroItem, ModuleItem, Modules, Place, Step,
+    Unread,
+};
 use std::alloc::{AllocError, Global};
 
 // The names of a path.
@@ -46,6 +49,33 @@ fn push_import(text: &mut String, import: &ImportItem) -> Result<(), AllocError>
     }
 }
 
+// A definition.
+fn push_macro(text: &mut String, item: &MacroItem) -> Result<(), AllocError> {
+    if item.is_exported {
+        text.push_str("exported ")?;
+    }
+    text.push_str(if item.is_macro {
+        "macro "
+    } else {
+        "macro_rules "
+    })?;
+    text.push_str(item.name.as_str())
+}
+
+// Another crate.
+fn push_crate(text: &mut String, item: &CrateItem) -> Result<(), AllocError> {
+    text.push_str("crate ")?;
+    text.push_str(item.name.as_str())?;
+    if let Some(alias) = &item.alias {
+        text.push_str(" as ")?;
+        text.push_str(alias.as_str())?;
+    }
+    if item.keeps_macros {
+        text.push_str(" kept")?;
+    }
+    Ok(())
+}
+
 /// An event.
 pub(crate) fn push_event(
     alloc: Global,
@@ -59,30 +89,9 @@ pub(crate) fn push_event(
             let count = format!(in alloc; " of {count}")?;
             text.push_str(count.as_str())
         }
-        Event::Macro(item) => {
-            if item.is_exported {
-                text.push_str("exported ")?;
-            }
-            text.push_str(if item.is_macro {
-                "macro "
-            } else {
-                "macro_rules "
-            })?;
-            text.push_str(item.name.as_str())
-        }
+        Event::Macro(item) => push_macro(text, item),
         Event::Import(import) => push_import(text, import),
-        Event::Crate(item) => {
-            text.push_str("crate ")?;
-            text.push_str(item.name.as_str())?;
-            if let Some(alias) = &item.alias {
-                text.push_str(" as ")?;
-                text.push_str(alias.as_str())?;
-            }
-            if item.keeps_macros {
-                text.push_str(" kept")?;
-            }
-            Ok(())
-        }
+        Event::Crate(item) => push_crate(text, item),
     }
 }
 
