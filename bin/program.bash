@@ -143,8 +143,8 @@ check_words() {
     while [ $i -lt ${#words[@]} ]; do
         case ${words[i]} in
             --) check_rest $((i + 1)); return ;;
-            --grammar=* | --edition=* | --scope=* | --depth=* | --std=* | --with=* | --cfg=*) check_value "${words[i]%%=*}" "${words[i]#*=}" ;;
-            --grammar | --edition | --scope | --depth | --with | --cfg)
+            --grammar=* | --edition=* | --scope=* | --depth=* | --most-calls=* | --most-tokens=* | --std=* | --with=* | --cfg=*) check_value "${words[i]%%=*}" "${words[i]#*=}" ;;
+            --grammar | --edition | --scope | --depth | --most-calls | --most-tokens | --with | --cfg)
                 [ $((i + 1)) -lt ${#words[@]} ] || misused "${words[i]} has no value"
                 check_value "${words[i]}" "${words[i + 1]}"
                 i=$((i + 1))
@@ -181,6 +181,7 @@ check_value() {
         --grammar=rust | --grammar=small | --edition=2015 | --edition=2018 | --edition=2021 | --edition=2024) return ;;
         --scope=rust | --scope=top) return ;;
         --depth=*) [[ $2 =~ ^\+?0*([0-9]{1,3})$ ]] && [ "${BASH_REMATCH[1]}" -le 255 ] && return ;;
+        --most-calls=* | --most-tokens=*) [[ $2 =~ ^\+?0*[0-9]{1,19}$ ]] && return ;;
     esac
     misused "$1 does not take $(shown "$2")"
 }
