@@ -4,6 +4,7 @@ use crate::words::Wants;
 use mbe_explain::{RuleStop, StopKind};
 use source_snippet::{column_in, line_at, line_number};
 use std::alloc::{AllocError, Global};
+use tt::TtIter;
 use tt_data::TextRange;
 
 // How many bytes of a token are shown in a note.
@@ -12,6 +13,47 @@ const MOST: usize = 40;
 // The number of a rule, from 1.
 pub(crate) fn number_of(stop: &RuleStop<'_>) -> usize {
     stop.index.saturating_add(1)
+}
+
+// How many trees the unit has that a list begins with: a lifetime two, a glued operator its puncts.
+fn unit_trees(trees: &TtIter<'_>) -> usize {
+    if let Some((quote, rest)) = trees.first_punct() {
+        if quote.char == '\'' && rest.lent_ident().is_some() {
+            return 2;
+        }
+    }
+    trees.glued_count()
+}
+
+// The trees after the first one.
+fn after_first<'a>(trees: &TtIter<'a>) -> Option<TtIter<'a>> {
+    if let Some((_leaf, rest)) = trees.lent_leaf() {
+        return Some(rest);
+    }
+    let (_brackets, _inner, rest) = trees.first_group()?;
+    Some(rest)
+}
+
+// Where the last tree of the unit begins that a list begins with, and ends.
+fn last_of_unit(trees: &TtIter<'_>) -> Option<TextRange> {
+    let mut rest = trees.copied();
+    for _ in 1..unit_trees(trees) {
+        rest = after_first(&rest)?;
+    }
+    Some(rest.next_span()?.range)
+}
+
+/// The range of the unit at which a rule stops: from its first token to the end of its last one.
+/// `None` at the end of the argument.
+pub(crate) fn range_of(stop: &RuleStop<'_>) -> Option<TextRange> {
+    let first = stop.stop.at?.range;
+    match last_of_unit(stop.stop.place.rest()) {
+        Some(last) if first.start <= last.end => Some(TextRange {
+            start: first.start,
+            end: last.end,
+        }),
+        _ => Some(first),
+    }
 }
 
 // The bytes of a token, if they are few and between characters.
@@ -54,7 +96,7 @@ pub(crate) fn label_of(
     let mut out = String::new(alloc);
     let number = number_of(stop);
     let wants = Wants::of(alloc, &stop.stop.wanted)?;
-    match (stop.stop.kind, stop.stop.at) {
+    match (stop.stop.kind, range_of(stop)) {
         (StopKind::Matches, _) => {
             write!(
                 out,
@@ -69,7 +111,7 @@ pub(crate) fn label_of(
         }
         (StopKind::Ambiguous, at) => {
             let token = match at {
-                Some(span) => written(text, span.range),
+                Some(range) => written(text, range),
                 None => None,
             };
             push_ambiguous(&mut out, &wants, number, token)?
@@ -115,8 +157,8 @@ pub(crate) fn note_of(
         return Ok(out);
     }
     write!(out, "rule {number} stops ")?;
-    match stop.stop.at {
-        Some(span) => push_place(&mut out, source, span.range)?,
+    match range_of(stop) {
+        Some(range) => push_place(&mut out, source, range)?,
         None => out.push_str("at the end of the argument")?,
     }
     if stop.stop.kind == StopKind::Unread {

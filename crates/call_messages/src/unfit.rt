@@ -6,7 +6,7 @@ use crate::marks::{lines_of, ranges_of};
 use crate::plain::section;
 use crate::search::{call_of, definition_before};
 use crate::source::Source;
-use crate::stops::{label_of, note_of, number_of};
+use crate::stops::{label_of, note_of, number_of, range_of};
 use bumpalo::Bump;
 use expander_model::call::Call;
 use expander_model::definition::Definition;
@@ -61,10 +61,10 @@ fn end_of(call: &Call<'_>) -> TextRange {
     }
 }
 
-// The range of the token at which a rule stops, or of the call's closing bracket.
+// The range of the unit at which a rule stops, or of the call's closing bracket.
 fn range_at(call: &Call<'_>, stop: &RuleStop<'_>) -> TextRange {
-    match stop.stop.at {
-        Some(span) => span.range,
+    match range_of(stop) {
+        Some(range) => range,
         None => end_of(call),
     }
 }

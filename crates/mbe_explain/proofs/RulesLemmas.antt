@@ -1,6 +1,6 @@
 -- What is told of rules: one by one, and the first that fits is the one that a call takes.
-use Rattle.std.proofs.Common.{◌≡◌, refl, sym, ap, subst, ◌∙◌, ℕ, suc, ◌<◌, ◌≤◌, Bool, true, false, List, [], ◌∷◌, ◌++◌}
-use Rattle.std.proofs.Common.{Option, Some, None, length, map, get_or, drop, drop-cons, append_assoc}
+use Rattle.std.proofs.Common.{◌≡◌, refl, sym, ap, subst, ◌∙◌, ℕ, zero, suc, ◌<◌, ◌≤◌, Bool, true, false, List, [], ◌∷◌, ◌++◌}
+use Rattle.std.proofs.Common.{Option, Some, None, length, map, get_or, drop, drop-cons, append_assoc, ◌||◌, arith}
 use Rattle.std.proofs.lemmas.List.{append-nil, drop_all}
 use Rattle.std.specs.Prelude.{is_some, option_map, if◌then◌else◌}
 use Rattle.tt_data.specs.Forest.{Forest}
@@ -11,7 +11,10 @@ use Rattle.mbe_rules.specs.declared.macro_call_style.MacroCallStyle.{MacroCallSt
 use Rattle.mbe_rules.specs.declared.rules.Rule.{Rule}
 use Rattle.mbe_matcher.specs.Grammar.{Grammar}
 use Rattle.mbe.specs.Fit.{fit_from, or_later, rule_fit, same_style}
-use Rattle.mbe_explain.specs.Rules.{AreTold, IsRuleStop, first_fitting, of_style}
+use Rattle.std.specs.List.{list_any}
+use Rattle.mbe_matcher.specs.Readings.{the_reading}
+use Rattle.mbe.specs.Bursts.{rule_bursts, template_bursts}
+use Rattle.mbe_explain.specs.Rules.{AreTold, HasTooMuch, IsRuleStop, first_fitting, of_style}
 use Rattle.mbe_explain.specs.declared.rules.RuleStop.{RuleStop}
 
 module _ (is_identifier : List ℕ → Bool) (gr : Grammar) (argument : Forest) (style : MacroCallStyle) where
@@ -90,3 +93,26 @@ module _ (is_identifier : List ℕ → Bool) (gr : Grammar) (argument : Forest) 
     first-fits n (r ∷ rs) told h =
         by-style (same_style style r.style) n r (of_style style (suc n) rs) (fit_from is_identifier gr mark style argument (suc n) rs) told
         (λ more w. first-fits (suc n) rs more w) h
+
+-- ---- too many tokens
+
+or-true : (a b : Bool) → b ≡ true → (a || b) ≡ true
+or-true true b e = refl
+or-true false b e = e
+
+or-first : (a b : Bool) → a ≡ true → (a || b) ≡ true
+or-first true b e = refl
+or-first false b e = absurd (cc e)
+
+-- what holds of one of some rules holds of one of them
+pub any-at : {A B : Type 0} (p : B → Bool) (f : A → B) (xs : List A) (i : ℕ) (x : A) → i < length xs → x ≡ get_or xs i x → p (f x) ≡ true →
+    list_any p (map f xs) ≡ true
+any-at p f [] i x h e w = absurd (omega arith)
+any-at p f (y ∷ xs) zero x h e w = or-first (p (f y)) (list_any p (map f xs)) (ap (λ z. p (f z)) (sym e) ∙ w)
+any-at p f (y ∷ xs) (suc i) x h e w = or-true (p (f y)) (list_any p (map f xs)) (any-at p f xs i x (omega arith) e w)
+
+-- a rule of this style that has too much
+pub bursts-here : (is_identifier : List ℕ → Bool) (gr : Grammar) (argument : Forest) (style : MacroCallStyle) (r : spec.Rule) → same_style style r.style ≡ true →
+    HasTooMuch is_identifier gr argument r → rule_bursts is_identifier gr (λ s. s) style r argument ≡ true
+bursts-here is_identifier gr argument style r same much =
+    subst (λ b. elim b [ true ↦ template_bursts is_identifier gr (λ s. s) r (the_reading gr r.pattern argument) | false ↦ false ] ≡ true) (sym same) much

@@ -1,7 +1,7 @@
 -- What is told of the rules of a definition for a call. (Of this project.)
 use Rattle.std.specs.Prelude.{◌≡◌, ◌↔◌, ℕ, suc, Bool, true, List, [], ◌∷◌, length, nat_lt}
 use Rattle.std.specs.Prelude.{Option, Some, None, is_some, if◌then◌else◌}
-use Rattle.std.specs.List.{IsFirstBest}
+use Rattle.std.specs.List.{IsFirstBest, list_any}
 use Rattle.tt_data.specs.Forest.{Forest}
 use Rattle.tt_data.specs.declared.span.Span.{Span}
 use Rattle.mbe_rules.specs.Items.{Items, Rule}
@@ -11,6 +11,7 @@ use Rattle.mbe_matcher.specs.Paths.{IsAmong}
 use Rattle.mbe_matcher.specs.Places.{place_of}
 use Rattle.mbe_matcher.specs.Readings.{the_reading}
 use Rattle.mbe_matcher.specs.Units as u
+use Rattle.mbe.specs.Bursts.{rule_bursts, template_bursts}
 use Rattle.mbe.specs.Fit.{rule_fit, same_style}
 use Rattle.mbe_explain.specs.Distances.{span_before_end}
 use Rattle.mbe_explain.specs.Stops.{HasTwoReadings, IsFirstClash, IsUnreadAt, IsWantedAt, Wanted}
@@ -54,6 +55,16 @@ module _ (is_identifier : List ℕ → Bool) (gr : Grammar) (argument : Forest) 
   AreTold [] [] = Unit {0}
   AreTold (r ∷ rs) (s ∷ ss) = IsRuleStop r.0 r.1 s × AreTold rs ss
   AreTold _ _ = ⊥
+
+  -- a matcher matches, and the transcriber puts out more tokens than a tree may have
+  abbrev pub HasTooMuch : Rule → Type 0
+  HasTooMuch r =
+      template_bursts is_identifier gr (λ s. s) r (the_reading gr r.pattern argument) ≡ true
+
+  -- one of these rules that has the style does so
+  abbrev pub OneHasTooMuch : MacroCallStyle → List Rule → Type 0
+  OneHasTooMuch style rules =
+      list_any (λ r. rule_bursts is_identifier gr (λ s. s) style r argument) rules ≡ true
 
 -- the index of the first that fits, if one does
 abbrev pub first_fitting : List RuleStop → Option ℕ

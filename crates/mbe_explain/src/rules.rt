@@ -1,17 +1,18 @@
 //! Why the rules of a definition do not fit a call.
-ghost use Rattle.std.specs.Prelude.{◌≡◌, IfErr, IfOk, None, false, is_some, length, map};
+ghost use Rattle.std.specs.Prelude.{◌≡◌, Err, IfErr, IfOk, None, false, is_some, length, map};
 ghost use Rattle.std.specs.Prelude.{option_map};
 ghost use Rattle.std.specs.List.{list_any};
 ghost use Rattle.tt.specs.Views.{forest};
 ghost use Rattle.tt_data.specs.declared.span.Span.{Span};
+ghost use Rattle.tt_data.specs.fault.TtFault.TheVariants.{Tokens};
 ghost use Rattle.mbe_rules.specs.Items.{has_empty_round};
 ghost use Rattle.mbe_rules.specs.Ops.{items_of, rule_of};
 ghost use Rattle.mbe.specs.Fit.{fit, rule_fit, same_style};
 ghost use Rattle.mbe.specs.Macros.{rules_of};
 ghost use Rattle.mbe_transcriber.specs.Markers.{is_name};
 ghost use Rattle.mbe_transcriber.specs.Room.{IsWantOfRoom};
-ghost use Rattle.mbe_explain.specs.Rules.{AreTold, IsNearest, IsRuleStop, comes_further};
-ghost use Rattle.mbe_explain.specs.Rules.{first_fitting, of_style};
+ghost use Rattle.mbe_explain.specs.Rules.{AreTold, HasTooMuch, IsNearest, IsRuleStop, OneHasTooMuch};
+ghost use Rattle.mbe_explain.specs.Rules.{comes_further, first_fitting, of_style};
 
 use crate::explain::{Stop, StopKind, explain_pattern};
 use bumpalo::Bump;
@@ -52,6 +53,8 @@ fn fits<G: FragmentGrammar>(
     ensures fits { (mark : Span → Span) → IfOk result (λ b. b ≡ is_some (rule_fit is_name
         (G.answer grammar.now) mark (rule_of rule.now) (forest argument.entry))) }
     ensures faults { IfErr result IsWantOfRoom }
+    ensures tokens { result ≡ Err Tokens → HasTooMuch is_name
+        (G.answer grammar.now) (forest argument.entry) (rule_of rule.now) }
 {
     let marker = |span: Span|
         ensures { result ≡ span }
@@ -75,6 +78,8 @@ fn rule_stop<'a, G: FragmentGrammar>(
     ensures told { IfOk result (IsRuleStop is_name (G.answer grammar.now) (forest argument.entry)
         index (rule_of rule.now)) }
     ensures faults { IfErr result IsWantOfRoom }
+    ensures tokens { result ≡ Err Tokens → HasTooMuch is_name
+        (G.answer grammar.now) (forest argument.entry) (rule_of rule.now) }
 {
     let stop = explain_pattern(alloc, arena, grammar, &rule.pattern, argument)?;
     let fits = stop.kind == StopKind::Matches && fits(alloc, grammar, rule, argument)?;
@@ -94,6 +99,8 @@ fn rule_stops<'a, G: FragmentGrammar>(
     ensures told { IfOk result (λ told. AreTold is_name (G.answer grammar.now)
         (forest argument.entry) (of_style style 0 (map rule_of rules.now)) told.items) }
     ensures faults { IfErr result IsWantOfRoom }
+    ensures tokens { result ≡ Err Tokens → OneHasTooMuch is_name
+        (G.answer grammar.now) (forest argument.entry) style (map rule_of rules.now) }
 {
     let mut told = Vec::new(alloc);
     for (index, rule) in rules.iter().enumerate() {
@@ -135,7 +142,8 @@ fn nearest(told: &[RuleStop<'_>]) -> Option<usize>
 ///
 /// # Errors
 ///
-/// `Memory`; or `Tokens` if a rule whose matcher matches puts out more than `u32::MAX` tokens.
+/// `Memory`; or `Tokens` if a rule of the style whose matcher matches puts out more than
+/// `u32::MAX` tokens, be it before a fault.
 pub fn explain_call<'a, G: FragmentGrammar>(
     alloc: Global,
     arena: &'a Bump,
@@ -157,6 +165,8 @@ pub fn explain_call<'a, G: FragmentGrammar>(
         (rules_of definition.now).list style (forest argument.entry))) }
     ensures nearest { IfOk result (λ e. IsNearest e.rules.items e.nearest) }
     ensures faults { IfErr result IsWantOfRoom }
+    ensures tokens { result ≡ Err Tokens → OneHasTooMuch is_name
+        (G.answer grammar.now) (forest argument.entry) style (rules_of definition.now).list }
 {
     let rules = rule_stops(alloc, arena, grammar, definition.rules(), argument, style)?;
     let nearest = nearest(&rules);

@@ -119,6 +119,37 @@ note: rule 4 of `six`, which comes furthest
   = 3 more rules come no further
 "##;
 
+const KEYS: &str = r##"macro_rules! keys { ($($k:ident ..= $v:lifetime),*) => {} }
+keys!(a ..= 'one, b => 'two);
+keys!(a ..= 'one, 'two);
+"##;
+
+const OPERATOR_TOLD: &str = r##"error: no rule matches this call of `keys`
+ --> calls.rs:2:21
+  |
+2 | keys!(a ..= 'one, b => 'two);
+  |                     ^^ rule 1 wants `..=` here
+  |
+note: rule 1 of `keys`
+ --> calls.rs:1:33
+  |
+1 | macro_rules! keys { ($($k:ident ..= $v:lifetime),*) => {} }
+  |                                 ^^^
+"##;
+
+const LIFETIME_TOLD: &str = r##"error: no rule matches this call of `keys`
+ --> calls.rs:3:19
+  |
+3 | keys!(a ..= 'one, 'two);
+  |                   ^^^^ rule 1 wants `$k:ident` here
+  |
+note: rule 1 of `keys`
+ --> calls.rs:1:24
+  |
+1 | macro_rules! keys { ($($k:ident ..= $v:lifetime),*) => {} }
+  |                        ^^^^^^^^
+"##;
+
 const FIT: &str = r##"macro_rules! row { ($($f:ident: $v:literal),*) => { [$($v),*] } }
 macro_rules! outer { ($($t:tt)*) => { row!($($t)* ; ; ) } }
 outer!(a: 1);
@@ -163,7 +194,9 @@ fn calls_are_explained(rt: HostRuntime) -> Result<(), Fail> {
     expect(rt.alloc(), ROW, "row!", ROW_TOLD)?;
     expect(rt.alloc(), LAST, "last!", LAST_TOLD)?;
     expect(rt.alloc(), ONE, "one!", ONE_TOLD)?;
-    expect(rt.alloc(), SIX, "six!", SIX_TOLD)
+    expect(rt.alloc(), SIX, "six!", SIX_TOLD)?;
+    expect(rt.alloc(), KEYS, "keys!(a ..= 'one, b", OPERATOR_TOLD)?;
+    expect(rt.alloc(), KEYS, "keys!(a ..= 'one, '", LIFETIME_TOLD)
 }
 
 #[test]
