@@ -70,6 +70,19 @@ fn written<'a>(text: &'a str, range: TextRange) -> Option<&'a str> {
     }
 }
 
+// The token at which a rule stops, if it can be shown.
+fn token_of<'a>(text: &'a str, stop: &RuleStop<'_>) -> Option<&'a str> {
+    written(text, range_of(stop)?)
+}
+
+// Adds that a rule matches and gives nothing.
+fn push_unfilled(out: &mut String, number: usize) -> Result<(), AllocError> {
+    write!(
+        out,
+        "rule {number} matches, but its transcriber cannot be filled"
+    )
+}
+
 // Adds how a rule stops that may be read in more than one way. The token there is named.
 fn push_ambiguous(
     out: &mut String,
@@ -87,6 +100,21 @@ fn push_ambiguous(
     out.push_str(", so it matches nothing")
 }
 
+// Adds what a rule wants where it stops: at a token, or at the end of the argument.
+fn push_unread(
+    out: &mut String,
+    wants: &Wants,
+    number: usize,
+    at_end: bool,
+) -> Result<(), AllocError> {
+    if at_end {
+        write!(out, "the argument ends here; rule {number} wants ")?;
+        return wants.push(out, "");
+    }
+    write!(out, "rule {number} wants ")?;
+    wants.push(out, " here")
+}
+
 /// What is said where the nearest rule stops.
 pub(crate) fn label_of(
     alloc: Global,
@@ -96,34 +124,16 @@ pub(crate) fn label_of(
     let mut out = String::new(alloc);
     let number = number_of(stop);
     let wants = Wants::of(alloc, &stop.stop.wanted)?;
-    match (stop.stop.kind, range_of(stop)) {
-        (StopKind::Matches, _) => {
-            write!(
-                out,
-                "rule {number} matches, but its transcriber cannot be filled"
-            )?
-        }
-        (StopKind::TwoReadings, _) => {
+    match stop.stop.kind {
+        StopKind::Matches => push_unfilled(&mut out, number)?,
+        StopKind::TwoReadings => {
             write!(
                 out,
                 "rule {number} reads this in two ways, so it matches nothing"
             )?
         }
-        (StopKind::Ambiguous, at) => {
-            let token = match at {
-                Some(range) => written(text, range),
-                None => None,
-            };
-            push_ambiguous(&mut out, &wants, number, token)?
-        }
-        (StopKind::Unread, Some(_)) => {
-            write!(out, "rule {number} wants ")?;
-            wants.push(&mut out, " here")?
-        }
-        (StopKind::Unread, None) => {
-            write!(out, "the argument ends here; rule {number} wants ")?;
-            wants.push(&mut out, "")?
-        }
+        StopKind::Ambiguous => push_ambiguous(&mut out, &wants, number, token_of(text, stop))?,
+        StopKind::Unread => push_unread(&mut out, &wants, number, stop.stop.at.is_none())?,
     }
     Ok(out)
 }
@@ -150,10 +160,7 @@ pub(crate) fn note_of(
     let mut out = String::new(alloc);
     let number = number_of(stop);
     if stop.stop.kind == StopKind::Matches {
-        write!(
-            out,
-            "rule {number} matches, but its transcriber cannot be filled"
-        )?;
+        push_unfilled(&mut out, number)?;
         return Ok(out);
     }
     write!(out, "rule {number} stops ")?;
