@@ -78,13 +78,15 @@ subcommand_of_name name grammar edition scope depth calls tokens = record (new_s
 pub is_simple_program : (app : App) → IsProgram app → is_simple app ≡ true
 is_simple_program app p =
     let base : Text → ValueParser → ValueParser → ValueParser → ValueParser → ValueParser → ValueParser → Shape = λ name g e s d m n. on_text (subcommand_of_name name g e s d m n) in
-    let of_three : Shape → Shape → Shape → App = λ a b c. record { top = program_shape; subs = a ∷ b ∷ c ∷ [] } in
+    let of_four : Shape → Shape → Shape → Shape → App = λ a b c d. record { top = program_shape; subs = a ∷ b ∷ c ∷ d ∷ [] } in
     let expand : Shape = with_more layout_rule
     (base (codes "expand") p.is_expand.is_base.is_base.grammar p.is_expand.is_base.is_base.edition p.is_expand.is_base.is_base.scope
     p.is_expand.is_base.is_base.depth p.is_expand.is_base.is_base.calls p.is_expand.is_base.is_base.tokens) in
+    let explain : Shape = base (codes "explain") p.is_explain.is_base.grammar p.is_explain.is_base.edition p.is_explain.is_base.scope p.is_explain.is_base.depth p.is_explain.is_base.calls p.is_explain.is_base.tokens in
     let replay : Shape = base (codes "replay") p.is_replay.is_base.grammar p.is_replay.is_base.edition p.is_replay.is_base.scope p.is_replay.is_base.depth p.is_replay.is_base.calls p.is_replay.is_base.tokens in
     ap is_simple (p.app_is
-    ∙ ap (λ (s : Shape). of_three s p.replay p.view) (p.is_expand.shape_is
+    ∙ ap (λ (s : Shape). of_four s p.explain p.replay p.view) (p.is_expand.shape_is
     ∙ ap (with_more layout_rule) (p.is_expand.is_base.shape_is ∙ ap on_text p.is_expand.is_base.is_base.shape_is))
-    ∙ ap (λ (s : Shape). of_three expand s p.view) (p.is_replay.shape_is ∙ ap on_text p.is_replay.is_base.shape_is)
-    ∙ ap (λ (s : Shape). of_three expand replay s) (p.is_view.shape_is ∙ ap on_text p.is_view.is_base.shape_is))
+    ∙ ap (λ (s : Shape). of_four expand s p.replay p.view) (p.is_explain.shape_is ∙ ap on_text p.is_explain.is_base.shape_is)
+    ∙ ap (λ (s : Shape). of_four expand explain s p.view) (p.is_replay.shape_is ∙ ap on_text p.is_replay.is_base.shape_is)
+    ∙ ap (λ (s : Shape). of_four expand explain replay s) (p.is_view.shape_is ∙ ap on_text p.is_view.is_base.shape_is))

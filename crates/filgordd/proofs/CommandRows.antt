@@ -21,7 +21,8 @@ module _ (grammar edition scope depth calls tokens : ValueParser) where
   abbrev program : App
   program = record {
     top = program_shape;
-    subs = with_more layout_rule (on_text (named (codes "expand"))) ∷ on_text (named (codes "replay")) ∷ on_text (named (codes "view")) ∷ [];
+    subs = with_more layout_rule (on_text (named (codes "expand"))) ∷ on_text (named (codes "explain")) ∷ on_text (named (codes "replay"))
+        ∷ on_text (named (codes "view")) ∷ [];
   }
 
   -- the subcommand, the four values and the file

@@ -98,7 +98,7 @@ pub record IsExpandSubcommand (shape : Shape) : Type 0 where
   pub is_base : IsTextSubcommand (codes "expand") base
   pub shape_is : shape ≡ with_more layout_rule base
 
--- the program: one of its three subcommands has to be named
+-- the program: one of its four subcommands has to be named
 abbrev pub program_shape : Shape
 program_shape = record (new_shape (codes "filgordd")) {
   is_leaf = false;
@@ -109,12 +109,14 @@ program_shape = record (new_shape (codes "filgordd")) {
 
 pub record IsProgram (app : App) : Type 0 where
   pub expand : Shape
+  pub explain : Shape
   pub replay : Shape
   pub view : Shape
   pub is_expand : IsExpandSubcommand expand
+  pub is_explain : IsTextSubcommand (codes "explain") explain
   pub is_replay : IsTextSubcommand (codes "replay") replay
   pub is_view : IsTextSubcommand (codes "view") view
-  pub app_is : app ≡ record { top = program_shape; subs = expand ∷ replay ∷ view ∷ [] }
+  pub app_is : app ≡ record { top = program_shape; subs = expand ∷ explain ∷ replay ∷ view ∷ [] }
 
 -- a file's name is the word for it, but `-` names none
 pub record IsFile (word file : Option Text) : Type 0 where

@@ -209,6 +209,7 @@ fn expand_subcommand<'a>(alloc: Global) -> Result<Command<'a>, AllocError>
 pub(crate) fn program<'a>(alloc: Global) -> Result<Command<'a>, AllocError>
     ensures { IfOk result (λ c. IsProgram (app_of c)) }
 {
+    let explain = "Explains the faults of a text: FILE, or FILE:LINE:COLUMN for one place";
     let replay = "Answers a script of edits and expansions";
     let view = "Prints an HTML page of a text, its expansion and its faults";
     Command::new(alloc, "filgordd")
@@ -219,6 +220,7 @@ pub(crate) fn program<'a>(alloc: Global) -> Result<Command<'a>, AllocError>
         .subcommand_required(true)
         .disable_help_subcommand(true)
         .subcommand(expand_subcommand(alloc)?)?
+        .subcommand(text_subcommand(alloc, "explain", explain)?)?
         .subcommand(text_subcommand(alloc, "replay", replay)?)?
         .subcommand(text_subcommand(alloc, "view", view)?)
 }

@@ -13,6 +13,8 @@ use replay_script::edition_of;
 pub(crate) enum Action {
     /// Its macros are expanded.
     Expand,
+    /// Its faults are explained.
+    Explain,
     /// It is answered as a script of edits and expansions.
     Replay,
     /// It is shown with its expansion, as an HTML page.
@@ -26,6 +28,7 @@ pub(crate) fn action_of(name: &str) -> Option<Action>
 {
     match name {
         "expand" => Some(Action::Expand),
+        "explain" => Some(Action::Explain),
         "replay" => Some(Action::Replay),
         "view" => Some(Action::View),
         _ => None,
@@ -46,7 +49,8 @@ pub(crate) struct Job<'a> {
     pub(crate) with: Vec<&'a str>,
     /// The words for options of `cfg`, in order.
     pub(crate) cfg: Vec<&'a str>,
-    /// The path of the text's file; without one it is standard input.
+    /// The path of the text's file; without one it is standard input. To explain faults, the line
+    /// and column of one may follow.
     pub(crate) file: Option<&'a str>,
 }
 

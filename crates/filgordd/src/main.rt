@@ -1,9 +1,10 @@
-//! The program `filgordd`: it expands the macros of a text, shows the expansion as a page, or
-//! answers a script of edits and expansions.
+//! The program `filgordd`: it expands the macros of a text, explains the text's faults, shows the
+//! expansion as a page, or answers a script of edits and expansions.
 #![tactic(auto)]
 
 mod command;
 mod conditions;
+mod explain;
 mod files;
 mod job;
 mod layout;
@@ -12,6 +13,7 @@ mod load;
 mod misread;
 mod other;
 mod picks;
+mod place;
 mod request;
 mod shown;
 mod source;

@@ -13,8 +13,8 @@ use std::alloc::{AllocError, Global};
 use std::io;
 use std::process::ExitCode;
 
-// The reply of a new session over a text after these definitions.
-fn reply_of(
+/// The reply of a new session over a text after these definitions.
+pub(crate) fn reply_of(
     alloc: Global,
     options: Options<AnyGrammar>,
     prelude: Prelude,

@@ -2,10 +2,12 @@
 ghost use Rattle.std.specs.Prelude.{◌≡◌};
 
 use crate::conditions::cfg_of;
+use crate::explain::explain;
 use crate::files::{misused, opened, read_whole, stopped};
 use crate::job::{Action, Job};
 use crate::layout::expand_in_lines;
 use crate::load::{Ended, Others, others_of};
+use crate::place::{Place, named_place};
 use crate::source::blank_front;
 use crate::view::view;
 use crate::warnings::warnings;
@@ -53,6 +55,20 @@ fn show(
     }
 }
 
+// Explains the faults of a text. `name` is its file's.
+fn tell(
+    rt: &HostRuntime,
+    task: Task,
+    prelude: Prelude,
+    name: &str,
+    text: &[u8],
+) -> io::Result<ExitCode> {
+    match std::str::from_utf8(text) {
+        Ok(text) => explain(rt, task.options, prelude, name, text, task.place),
+        Err(_) => stopped(rt, "input is not UTF-8"),
+    }
+}
+
 // Answers a script line by line, as the crate `replay_script` says, and reports why it ended.
 fn replay<R: Read + Drop>(
     rt: &HostRuntime,
@@ -84,6 +100,8 @@ struct Task {
     options: Options<AnyGrammar>,
     // Whether the expansion is laid out.
     layout: bool,
+    // Which faults are explained: those at this place, or all.
+    place: Option<Place>,
 }
 
 // Warns of conditions of a text that cannot be read, where options are set. `name` is its file's.
@@ -111,12 +129,16 @@ fn answer(
     name: &str,
     text: &[u8],
 ) -> io::Result<ExitCode> {
+    warn(rt, &task.options, name, text);
+    if task.action == Action::Explain {
+        return tell(rt, task, others.prelude, name, text);
+    }
     let Task {
         action,
         options,
         layout,
+        ..
     } = task;
-    warn(rt, &options, name, text);
     match action {
         Action::View => show(rt, options, others, name, text),
         _ if layout => expand_in_lines(rt, options, others.prelude, text),
@@ -158,10 +180,12 @@ fn work(
         file,
         ..
     } = job;
+    let (file, place) = named_place(action, file);
     let task = Task {
         action,
         options: under(options, cfg),
         layout,
+        place,
     };
     match file {
         None => work_on(rt, task, others, "standard input", rt.stdin()),

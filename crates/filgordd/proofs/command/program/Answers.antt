@@ -12,12 +12,16 @@ returns c =
     ∙ ap (λ (a : App). with_subcommand a (shape_of c.in_ok-expand_subcommand.field-0)) first in
     let third = c.in_ok-subcommand-2.ensures.shape c.in_ok-text_subcommand.ensures.own
     ∙ ap (λ (a : App). with_subcommand a (shape_of c.in_ok-text_subcommand.field-0)) second in
-    IfOk-weaker c.subcommand-3.result _ _ (λ r h. record {
+    let fourth = c.in_ok-subcommand-3.ensures.shape c.in_ok-text_subcommand-2.ensures.own
+    ∙ ap (λ (a : App). with_subcommand a (shape_of c.in_ok-text_subcommand-2.field-0)) third in
+    IfOk-weaker c.subcommand-4.result _ _ (λ r h. record {
       expand = shape_of c.in_ok-expand_subcommand.field-0;
-      replay = shape_of c.in_ok-text_subcommand.field-0;
-      view = shape_of c.in_ok-text_subcommand-2.field-0;
+      explain = shape_of c.in_ok-text_subcommand.field-0;
+      replay = shape_of c.in_ok-text_subcommand-2.field-0;
+      view = shape_of c.in_ok-text_subcommand-3.field-0;
       is_expand = c.in_ok-expand_subcommand.ensures.shape;
-      is_replay = c.in_ok-text_subcommand.ensures.shape;
-      is_view = c.in_ok-text_subcommand-2.ensures.shape;
-      app_is = h.shape c.in_ok-text_subcommand-2.ensures.own ∙ ap (λ (a : App). with_subcommand a (shape_of c.in_ok-text_subcommand-2.field-0)) third;
-    }) c.subcommand-3.ensures
+      is_explain = c.in_ok-text_subcommand.ensures.shape;
+      is_replay = c.in_ok-text_subcommand-2.ensures.shape;
+      is_view = c.in_ok-text_subcommand-3.ensures.shape;
+      app_is = h.shape c.in_ok-text_subcommand-3.ensures.own ∙ ap (λ (a : App). with_subcommand a (shape_of c.in_ok-text_subcommand-3.field-0)) fourth;
+    }) c.subcommand-4.ensures

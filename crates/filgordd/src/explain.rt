@@ -1,0 +1,222 @@
+//! Explains the faults of a text.
+ghost use Rattle.std.specs.Prelude.{◌<◌, ◌^◌, length};
+
+use crate::files::stopped;
+use crate::place::Place;
+use crate::view::reply_of;
+use any_grammar::AnyGrammar;
+use bridge::{Read, ReadFault, ReadFaultKind, read};
+use call_messages::{Place as TextPlace, Source, Unfit, push_plain, push_unfit};
+use expander::{Edition, Fault, FaultKind, Options, Prelude, Refusal, Reply};
+use expander_run::lines::{fault_words, read_fault_words};
+use rustc_lexer::LexedText;
+use source_snippet::{column_in, line_at, line_number};
+use std::alloc::{AllocError, Global};
+use std::io;
+use std::process::ExitCode;
+use tt::TopSubtree;
+use tt_data::{TextRange, TtFault};
+
+// How many faults are explained.
+const MOST: usize = 100;
+
+// What is said under a reading fault.
+fn read_fault_label(kind: ReadFaultKind) -> &'static str {
+    match kind {
+        ReadFaultKind::BadToken => "this token does not end, or is unknown or reserved",
+        ReadFaultKind::CloserDoesNotFit => "this closes no open bracket of its kind",
+        ReadFaultKind::GroupLeftOpen => "this bracket is not closed",
+    }
+}
+
+// What is said under a fault of a call that is not explained by its rules, and under other faults.
+fn label(kind: FaultKind, unfit: Unfit) -> &'static str {
+    match (kind, unfit) {
+        (FaultKind::CannotExpand, Unfit::Fits) => "in what this call gives",
+        (FaultKind::CannotExpand, _) => "no rule of its definition matches",
+        (FaultKind::BrokenDefinition, _) => "the rules of this definition cannot be read",
+        (FaultKind::RecursionLimit, _) => "what this call gives calls macros level after level",
+        (FaultKind::NestedDefinition, _) => "this stays as it is, and defines nothing",
+        (FaultKind::Unspellable, _) => "a token of this cannot be written, and is left out",
+    }
+}
+
+// Whether a range begins at a place; without a place each does.
+fn is_at(text: &str, range: TextRange, place: Option<Place>) -> bool {
+    let Some(place) = place else {
+        return true;
+    };
+    let start = range.start as usize;
+    let line = line_at(text, start);
+    let column = column_in(line.text, start.saturating_sub(line.start));
+    line_number(text, start) == place.line && column == place.column
+}
+
+// What is explained of a text, and by which language.
+#[derive(Clone, Copy, Drop)]
+struct Question<'a> {
+    alloc: Global,
+    grammar: AnyGrammar,
+    edition: Edition,
+    source: Source<'a>,
+    tree: &'a TopSubtree,
+}
+
+impl Question<'_> {
+    // Adds what is told of a call that no rule fits, if it can be told.
+    fn push_call(&self, out: &mut String, at: u32) -> Result<Unfit, TtFault> {
+        let place = TextPlace {
+            source: self.source,
+            trees: self.tree.token_trees(),
+            at,
+        };
+        push_unfit(self.alloc, out, &self.grammar, self.edition, place)
+    }
+
+    // Adds a message about a fault.
+    fn push_fault(&self, out: &mut String, fault: &Fault) -> Result<(), TtFault> {
+        let mut unfit = Unfit::Unknown;
+        if fault.kind == FaultKind::CannotExpand {
+            unfit = self.push_call(out, fault.range.start)?;
+        }
+        if unfit == Unfit::Told {
+            return Ok(());
+        }
+        let words = fault_words(fault.kind);
+        let title = format!(in self.alloc; "error: {words}")?;
+        let label = label(fault.kind, unfit);
+        push_plain(
+            self.alloc,
+            out,
+            self.source,
+            title.as_str(),
+            fault.range,
+            label,
+        )?;
+        Ok(())
+    }
+
+    // Adds a message about each fault at a place, with an empty line between. Only the first ones
+    // are explained. The number of faults there.
+    fn push_faults(
+        &self,
+        out: &mut String,
+        faults: &[Fault],
+        place: Option<Place>,
+    ) -> Result<usize, TtFault> {
+        let mut count = 0usize;
+        for fault in faults {
+            if !is_at(self.source.text, fault.range, place) {
+                continue;
+            }
+            if count < MOST {
+                if count > 0 {
+                    out.push('\n')?;
+                }
+                self.push_fault(out, fault)?;
+            }
+            count = count.saturating_add(1);
+        }
+        Ok(count)
+    }
+}
+
+// The message about a reading fault, if that is at the place.
+fn read_fault_message(
+    alloc: Global,
+    source: Source<'_>,
+    fault: &ReadFault,
+    place: Option<Place>,
+) -> Result<String, AllocError> {
+    let mut out = String::new(alloc);
+    if is_at(source.text, fault.range, place) {
+        let words = read_fault_words(fault.kind);
+        let title = format!(in alloc; "error: {words}")?;
+        let label = read_fault_label(fault.kind);
+        push_plain(alloc, &mut out, source, title.as_str(), fault.range, label)?;
+    }
+    Ok(out)
+}
+
+// The messages about the faults of an expansion at a place, and the number of these faults.
+fn messages(
+    alloc: Global,
+    language: (AnyGrammar, Edition),
+    source: Source<'_>,
+    faults: &[Fault],
+    place: Option<Place>,
+) -> Result<(String, usize), TtFault>
+    requires { length source.text.now < 2 ^ 32 }
+{
+    let mut out = String::new(alloc);
+    let held = LexedText::new(alloc, source.text)?;
+    let (grammar, edition) = language;
+    let count = match read(alloc, held.text(), held.tokens())? {
+        Read::Tree(tree) => {
+            let question = Question {
+                alloc,
+                grammar,
+                edition,
+                source,
+                tree: &tree,
+            };
+            question.push_faults(&mut out, faults, place)?
+        }
+        Read::Fault(_fault) => 0,
+    };
+    let more = count.saturating_sub(MOST);
+    if more > 0 {
+        writeln!(out, "\n{more} more faults")?;
+    }
+    Ok((out, count))
+}
+
+// Why a session gives no reply.
+fn refusal_words(refusal: Refusal) -> &'static str {
+    match refusal {
+        Refusal::Memory => "out of memory",
+        Refusal::Tokens => "too many tokens",
+        Refusal::Numbers => "too many definitions",
+    }
+}
+
+// Prints messages. The status is 0 if there is none, else 1.
+fn printed(rt: &HostRuntime, out: &str) -> io::Result<ExitCode> {
+    if out.is_empty() {
+        return Ok(ExitCode::SUCCESS);
+    }
+    print!(rt; "{out}")?;
+    Ok(ExitCode::FAILURE)
+}
+
+/// Prints a message about each fault of a text after these definitions, or about those at a place.
+/// Of a call in the text that no rule fits, it says where the nearest rule stops and what it wants
+/// there. The status is 0 if there is no such fault, else 1.
+pub(crate) fn explain(
+    rt: &HostRuntime,
+    options: Options<AnyGrammar>,
+    prelude: Prelude,
+    name: &str,
+    text: &str,
+    place: Option<Place>,
+) -> io::Result<ExitCode> {
+    if text.len() > 0xffff_ffff {
+        return stopped(rt, "input is too long");
+    }
+    let source = Source { file: name, text };
+    let language = (options.grammar, options.edition);
+    match reply_of(rt.alloc(), options, prelude, text) {
+        Err(refusal) => stopped(rt, refusal_words(refusal)),
+        Ok(Reply::Unread(fault)) => {
+            let out = read_fault_message(rt.alloc(), source, &fault, place)?;
+            printed(rt, out.as_str())
+        }
+        Ok(Reply::Read(expansion)) => {
+            match messages(rt.alloc(), language, source, expansion.faults(), place) {
+                Ok((out, _count)) => printed(rt, out.as_str()),
+                Err(TtFault::Tokens) => stopped(rt, "too many tokens"),
+                Err(_) => stopped(rt, "out of memory"),
+            }
+        }
+    }
+}
