@@ -46,7 +46,7 @@ in_file h k folder = record { file = k; folder = folder; around = h.file ∷ h.a
 abbrev pub end_of : ℕ → ℕ → ℕ → ℕ
 end_of i n j = i + 1 + min n (j - (i + 1))
 
--- an event is no module
+-- an event is an item that is no module
 abbrev pub is_item : Event → Bool
 is_item (event.Outline m) = false
 is_item (event.Inline m n) = false
