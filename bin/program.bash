@@ -136,7 +136,7 @@ check_words() {
     local i=1
     file_at=
     case ${words[0]-} in
-        expand | replay | view) ;;
+        expand | explain | replay | view) ;;
         '') misused 'there is no command' ;;
         *) misused "there is no command $(shown "${words[0]}")" ;;
     esac

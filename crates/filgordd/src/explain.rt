@@ -10,7 +10,7 @@ use call_messages::{Place as TextPlace, Source, Unfit, push_plain, push_unfit};
 use expander::{Edition, Fault, FaultKind, Options, Prelude, Refusal, Reply};
 use expander_run::lines::{fault_words, read_fault_words};
 use rustc_lexer::LexedText;
-use source_snippet::{column_in, line_at, line_number};
+use source_snippet::line_at;
 use std::alloc::{AllocError, Global};
 use std::io;
 use std::process::ExitCode;
@@ -38,18 +38,68 @@ fn label(kind: FaultKind, unfit: Unfit) -> &'static str {
         (FaultKind::RecursionLimit, _) => "what this call gives calls macros level after level",
         (FaultKind::NestedDefinition, _) => "this stays as it is, and defines nothing",
         (FaultKind::Unspellable, _) => "a token of this cannot be written, and is left out",
+        (FaultKind::TooLarge, _) => "this makes more than --most-calls and --most-tokens say",
     }
 }
 
-// Whether a range begins at a place; without a place each does.
-fn is_at(text: &str, range: TextRange, place: Option<Place>) -> bool {
-    let Some(place) = place else {
-        return true;
-    };
-    let start = range.start as usize;
-    let line = line_at(text, start);
-    let column = column_in(line.text, start.saturating_sub(line.start));
-    line_number(text, start) == place.line && column == place.column
+// The byte at which a line begins, if the text has so many lines.
+fn line_start(text: &str, line: usize) -> Option<usize> {
+    let bytes = text.as_bytes();
+    let mut left = line.checked_sub(1)?;
+    let mut start = 0usize;
+    for at in 0..bytes.len() {
+        if left == 0 {
+            break;
+        }
+        if bytes[at] == b'\n' {
+            left = left.saturating_sub(1);
+            start = at.saturating_add(1);
+        }
+    }
+    if left == 0 { Some(start) } else { None }
+}
+
+// The byte at a place, if the text has it.
+fn byte_at(text: &str, place: Place) -> Option<usize> {
+    let line = line_at(text, line_start(text, place.line)?);
+    let mut left = place.column.checked_sub(1)?;
+    let mut at = line.start;
+    for character in line.text.chars() {
+        if left == 0 {
+            break;
+        }
+        left = left.saturating_sub(1);
+        at = at.saturating_add(character.len_utf8());
+    }
+    if left == 0 { Some(at) } else { None }
+}
+
+// Which faults are explained: all, or those that begin at a byte.
+#[derive(Clone, Copy)]
+enum Asked {
+    All,
+    At(usize),
+    Nothing,
+}
+
+// Those at a place; without a place all.
+fn asked_of(text: &str, place: Option<Place>) -> Asked {
+    match place {
+        None => Asked::All,
+        Some(place) => match byte_at(text, place) {
+            Some(at) => Asked::At(at),
+            None => Asked::Nothing,
+        },
+    }
+}
+
+// Whether a range is one of them.
+fn is_asked(asked: Asked, range: TextRange) -> bool {
+    match asked {
+        Asked::All => true,
+        Asked::At(at) => range.start as usize == at,
+        Asked::Nothing => false,
+    }
 }
 
 // What is explained of a text, and by which language.
@@ -104,9 +154,10 @@ impl Question<'_> {
         faults: &[Fault],
         place: Option<Place>,
     ) -> Result<usize, TtFault> {
+        let asked = asked_of(self.source.text, place);
         let mut count = 0usize;
         for fault in faults {
-            if !is_at(self.source.text, fault.range, place) {
+            if !is_asked(asked, fault.range) {
                 continue;
             }
             if count < MOST {
@@ -129,7 +180,7 @@ fn read_fault_message(
     place: Option<Place>,
 ) -> Result<String, AllocError> {
     let mut out = String::new(alloc);
-    if is_at(source.text, fault.range, place) {
+    if is_asked(asked_of(source.text, place), fault.range) {
         let words = read_fault_words(fault.kind);
         let title = format!(in alloc; "error: {words}")?;
         let label = read_fault_label(fault.kind);
