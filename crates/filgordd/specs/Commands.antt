@@ -107,6 +107,10 @@ program_shape = record (new_shape (codes "filgordd")) {
   subcommand_required = true;
 }
 
+-- the program without its subcommands
+abbrev pub bare_program : App
+bare_program = record { top = record program_shape { is_leaf = true }; subs = [] }
+
 pub record IsProgram (app : App) : Type 0 where
   pub expand : Shape
   pub explain : Shape

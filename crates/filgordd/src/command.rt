@@ -4,7 +4,7 @@ ghost use Rattle.clap.specs.Words.{app_of, rule_of, shape_of};
 ghost use Rattle.clap.specs.declared.builder.command.Command.TheViews.{out-Command as fields_of};
 ghost use Rattle.clap.specs.declared.builder.value_parser.ValueParser.{ValueParser};
 ghost use Rattle.filgordd.specs.Commands.{ChoosesLanguage, IsExpandSubcommand, IsProgram, IsSubcommand, IsTextSubcommand};
-ghost use Rattle.filgordd.specs.Commands.{cfg_rule, file_rule, layout_rule, library_rule, option_rule, with_rule};
+ghost use Rattle.filgordd.specs.Commands.{bare_program, cfg_rule, file_rule, layout_rule, library_rule, option_rule, with_rule};
 
 use clap::{Arg, ArgAction, Command, value_parser};
 use std::alloc::{AllocError, Global};
@@ -205,6 +205,21 @@ fn expand_subcommand<'a>(alloc: Global) -> Result<Command<'a>, AllocError>
     text_subcommand(alloc, "expand", about)?.arg(layout(alloc))
 }
 
+// The program's command without its subcommands.
+fn bare_program<'a>(alloc: Global) -> Result<Command<'a>, AllocError>
+    ensures { IfOk result (λ c. app_of c ≡ bare_program) }
+{
+    Ok(
+        Command::new(alloc, "filgordd")
+            .bin_name("filgordd")?
+            .version("0.1.0")
+            .about(ABOUT)
+            .after_help(STATUSES)
+            .subcommand_required(true)
+            .disable_help_subcommand(true),
+    )
+}
+
 /// The program's command. Its subcommands are the names of [`Action`](crate::job::Action).
 pub(crate) fn program<'a>(alloc: Global) -> Result<Command<'a>, AllocError>
     ensures { IfOk result (λ c. IsProgram (app_of c)) }
@@ -212,13 +227,7 @@ pub(crate) fn program<'a>(alloc: Global) -> Result<Command<'a>, AllocError>
     let explain = "Explains the faults of a text: FILE, or FILE:LINE:COLUMN for one place";
     let replay = "Answers a script of edits and expansions";
     let view = "Prints an HTML page of a text, its expansion and its faults";
-    Command::new(alloc, "filgordd")
-        .bin_name("filgordd")?
-        .version("0.1.0")
-        .about(ABOUT)
-        .after_help(STATUSES)
-        .subcommand_required(true)
-        .disable_help_subcommand(true)
+    bare_program(alloc)?
         .subcommand(expand_subcommand(alloc)?)?
         .subcommand(text_subcommand(alloc, "explain", explain)?)?
         .subcommand(text_subcommand(alloc, "replay", replay)?)?

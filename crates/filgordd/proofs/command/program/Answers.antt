@@ -1,13 +1,11 @@
-use Rattle.std.proofs.Common.{rules, ap, true, ◌∙◌, ◌≡◌, []}
+use Rattle.std.proofs.Common.{ap, ◌∙◌}
 use Rattle.std.proofs.lemmas.Result.{IfOk-weaker}
-use Rattle.clap.specs.Simple.{App, app_of, shape_of, with_subcommand}
-use Rattle.filgordd.specs.Commands.{program_shape}
+use Rattle.clap.specs.Simple.{App, shape_of, with_subcommand}
 use Rattle.filgordd.proofs.command.program.Goals as goal
 
 pub returns : goal.returns
 returns c =
-    let bare : App = record { top = record program_shape { is_leaf = true }; subs = [] } in
-    let first : app_of c.disable_help_subcommand.result ≡ bare = search rules in
+    let first = c.in_ok-bare_program.ensures in
     let second = c.in_ok-subcommand.ensures.shape c.in_ok-expand_subcommand.ensures.own
     ∙ ap (λ (a : App). with_subcommand a (shape_of c.in_ok-expand_subcommand.field-0)) first in
     let third = c.in_ok-subcommand-2.ensures.shape c.in_ok-text_subcommand.ensures.own
