@@ -238,21 +238,45 @@ fn limited(alloc: Global, text: &str, limits: Limits) -> Result<Session<SmallGra
     )?)
 }
 
-#[test]
-fn what_a_call_makes(rt: HostRuntime) -> Result<(), Fail> {
-    for (calls, tokens, text, want, faults) in &LIMITED {
-        let limits = Limits {
-            calls: *calls,
-            tokens: *tokens,
-        };
-        let given = found(&mut limited(rt.alloc(), text, limits)?)?;
-        assert!(rt; given.printed() == *want, "{text}: {}", given.printed());
-        assert!(rt; given.faults().len() == *faults, "{text}");
-        for fault in given.faults() {
-            assert!(rt; fault.kind == FaultKind::TooLarge, "{text}");
+// Whether this text is printed, with so many faults, all of which are calls that make too much.
+fn says(given: &Expansion, want: &str, faults: usize) -> bool {
+    if given.printed() != want || given.faults().len() != faults {
+        return false;
+    }
+    for fault in given.faults() {
+        if fault.kind != FaultKind::TooLarge {
+            return false;
         }
     }
+    true
+}
+
+fn makes(alloc: Global, row: &(usize, usize, &str, &str, usize)) -> Result<bool, Fail> {
+    let limits = Limits {
+        calls: row.0,
+        tokens: row.1,
+    };
+    let given = found(&mut limited(alloc, row.2, limits)?)?;
+    Ok(says(&given, row.3, row.4))
+}
+
+#[test]
+fn what_a_call_makes(rt: HostRuntime) -> Result<(), Fail> {
+    for row in &LIMITED {
+        assert!(rt; makes(rt.alloc(), row)?, "{}", row.2);
+    }
     Ok(())
+}
+
+// An edit of one digit in a session, and what is said then.
+fn says_with(
+    session: &mut Session<SmallGrammar>,
+    edit: (char, &str),
+    want: &str,
+    faults: usize,
+) -> Result<bool, Fail> {
+    let given = expanded_with(session, edit.0, edit.1)?;
+    Ok(says(&given, want, faults))
 }
 
 // Where a call makes too much its look-ups until then are kept: it is expanded anew once one of
@@ -265,11 +289,8 @@ fn what_is_too_large(rt: HostRuntime) -> Result<(), Fail> {
         tokens: 11,
     };
     let mut session = limited(rt.alloc(), text, limits)?;
-    let first = found(&mut session)?;
-    assert!(rt; first.printed() == "m ! { }\n5\n" && first.faults().len() == 1);
-    let elsewhere = expanded_with(&mut session, '5', "6")?;
-    assert!(rt; elsewhere.printed() == "m ! { }\n6\n" && elsewhere.faults().len() == 1);
-    let less = expanded_with(&mut session, '3', "")?;
-    assert!(rt; less.printed() == "1 2 1 2 6\n" && less.faults().is_empty());
+    assert!(rt; says(&found(&mut session)?, "m ! { }\n5\n", 1));
+    assert!(rt; says_with(&mut session, ('5', "6"), "m ! { }\n6\n", 1)?);
+    assert!(rt; says_with(&mut session, ('3', ""), "1 2 1 2 6\n", 0)?);
     Ok(())
 }
