@@ -316,8 +316,8 @@ fn start<F: Files>(
 /// The modules of the crate whose root has this path, in order, and the files that were read. At
 /// most so many files are entered besides the root. `None` if there is no file of this path.
 ///
-/// Each file is read once. What cannot be followed is a step that says why. Out of memory is the
-/// only error.
+/// Each file has one number, by its name. What cannot be followed is a step that says why. Out of
+/// memory is the only error.
 pub fn walk_crate<F: Files>(
     alloc: Global,
     files: &F,
