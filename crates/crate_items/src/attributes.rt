@@ -2,7 +2,8 @@
 ghost use Rattle.std.specs.Prelude.{◌≡◌, ◌<◌, IfOk, IfSome, codes, option_map, string_bytes};
 ghost use Rattle.tt_data.specs.Forest.{size};
 ghost use Rattle.tt_data.specs.Lent.{literal_lent};
-ghost use Rattle.crate_items.specs.Attributes.{first_attribute, has_attribute, has_text, only_literal, path_literal, path_of, text_of};
+ghost use Rattle.crate_items.specs.Attributes.{first_attribute, has_attribute, has_text};
+ghost use Rattle.crate_items.specs.Attributes.{only_literal, path_literal, path_of, text_of};
 
 use cfg_options::string_text;
 use expander_model::definition::after_word;

@@ -1,6 +1,7 @@
 //! Events for single items.
 ghost use Rattle.std.specs.Prelude.{◌≡◌, IfOk, option_map, string_bytes};
-ghost use Rattle.crate_items.specs.Items.{macro_at, macro_in, macro_of, module_at, module_of, other_at, other_in, other_of};
+ghost use Rattle.crate_items.specs.Items.{macro_at, macro_in, macro_of, module_at, module_of};
+ghost use Rattle.crate_items.specs.Items.{other_at, other_in, other_of};
 
 use crate::attributes::{has_attribute, path_of};
 use crate::heads::{crate_alias, crate_head};

@@ -1,7 +1,8 @@
 //! What a piece begins with, behind its attributes and its visibility.
 ghost use Rattle.std.specs.Prelude.{◌≡◌, codes, unwrap_or};
 ghost use Rattle.expander_model.specs.Definitions.{after_pub, is_semicolon};
-ghost use Rattle.crate_items.specs.Heads.{behind_visibility, braced, crate_alias, crate_head, module_head};
+ghost use Rattle.crate_items.specs.Heads.{behind_visibility, braced, crate_alias, crate_head};
+ghost use Rattle.crate_items.specs.Heads.{module_head};
 
 use expander_model::definition::{after_attributes, after_pub, after_word};
 use tt::TtIter;

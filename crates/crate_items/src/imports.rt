@@ -1,6 +1,10 @@
 //! The names that a `use` brings. (The Rust Reference, "Use declarations".)
-ghost use Rattle.std.specs.Prelude.{◌≡◌, ◌++◌, ◌∷◌, [], Some, IfOk, OnOk, flat_map, map, option_map, string_bytes};
-ghost use Rattle.crate_items.specs.Imports.{Import, Use, after_colons, as_list, behind_use, tree_end, all_of, first_segment, import_at, import_in, imports_of, is_end, last_of, one_of, tree_imports, use_alias, with_name};
+ghost use Rattle.std.specs.Prelude.{◌≡◌, ◌++◌, ◌∷◌, [], Some, IfOk, OnOk, flat_map, map};
+ghost use Rattle.std.specs.Prelude.{option_map, string_bytes};
+ghost use Rattle.crate_items.specs.Imports.{Import, Use, after_colons, as_list, behind_use};
+ghost use Rattle.crate_items.specs.Imports.{tree_end, all_of, first_segment, import_at, import_in};
+ghost use Rattle.crate_items.specs.Imports.{imports_of, is_end, last_of, one_of, tree_imports};
+ghost use Rattle.crate_items.specs.Imports.{use_alias, with_name};
 ghost use Rattle.cfg_options.specs.Conditions.{cut_at_commas};
 ghost use Rattle.crate_items.specs.Heads.{braced};
 ghost use Rattle.crate_items.specs.Items.{import, items_of_events};

@@ -2,7 +2,9 @@
 ghost use Rattle.std.specs.Prelude.{◌≡◌, ◌++◌, ◌∷◌, IfOk, OnOk, flat_map, map};
 ghost use Rattle.cfg_options.specs.Options.{options_of};
 ghost use Rattle.expander_model.specs.Pieces.{cut};
-ghost use Rattle.crate_items.specs.Items.{definition, import, items_of_events, items_within, kept_items, listed, macro_in, other, other_in, own_items, piece_items, text_items, with_head};
+ghost use Rattle.crate_items.specs.Items.{definition, import, items_of_events, items_within};
+ghost use Rattle.crate_items.specs.Items.{kept_items, listed, macro_in, other, other_in, own_items};
+ghost use Rattle.crate_items.specs.Items.{piece_items, text_items, with_head};
 ghost use Rattle.crate_items.specs.Heads.{module_head};
 
 use crate::events::{macro_in, module_at, other_in};

@@ -1,7 +1,8 @@
 //! Where the file of a module is looked for. (The Rust Reference, "Modules": module source
 //! filenames, the `path` attribute.)
 ghost use Rattle.std.specs.Prelude.{◌≡◌, ◌++◌, IfOk, OnOk, OnErr, codes, option_map, string_bytes};
-ghost use Rattle.crate_walk.specs.Folders.{Folder, as_folder, both, by_folder, by_name, by_path, folder_of, inside, is_folder, joined, root_folder};
+ghost use Rattle.crate_walk.specs.Folders.{Folder, as_folder, both, by_folder, by_name, by_path};
+ghost use Rattle.crate_walk.specs.Folders.{folder_of, inside, is_folder, joined, root_folder};
 
 use std::alloc::{AllocError, Global};
 use std::marker::Model;

@@ -1,5 +1,6 @@
 //! The next event of a frame.
-ghost use Rattle.std.specs.Prelude.{◌≡◌, ◌<◌, IfOk, length, option_copied, option_map, string_bytes};
+ghost use Rattle.std.specs.Prelude.{◌≡◌, ◌<◌, IfOk, length, option_copied, option_map};
+ghost use Rattle.std.specs.Prelude.{string_bytes};
 ghost use Rattle.crate_walk.specs.Files.{event_in};
 ghost use Rattle.crate_walk.specs.Frames.{IsAllowed, IsNext, IsNextOf};
 ghost use Rattle.crate_walk.specs.Files.{files_in};

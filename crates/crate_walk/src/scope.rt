@@ -1,10 +1,13 @@
 //! Which definitions are in scope by their place. (The Rust Reference, "Macros By Example": textual
 //! scope, the `macro_use` attribute.)
-ghost use Rattle.std.specs.Prelude.{◌≡◌, ◌++◌, ◌∷◌, [], IfOk, OnOk, if◌then◌else◌, filter, nat_eq, not};
+ghost use Rattle.std.specs.Prelude.{◌≡◌, ◌++◌, ◌∷◌, [], IfOk, OnOk, if◌then◌else◌, filter, nat_eq};
+ghost use Rattle.std.specs.Prelude.{not};
 ghost use Rattle.crate_walk.specs.Files.{Files};
 ghost use Rattle.crate_walk.specs.Marks.{IsMarked, all_picks, file_picks};
 ghost use Rattle.crate_walk.specs.Modules.{files_of, steps_of};
-ghost use Rattle.crate_walk.specs.Scopes.{Scope, after, at_root, holds_at, is_scoped, keeps_macros, begins, ends, picks_at, picks_at_end, picks_from, picks_of, picks_where};
+ghost use Rattle.crate_walk.specs.Scopes.{Scope, after, at_root, holds_at, is_scoped, keeps_macros};
+ghost use Rattle.crate_walk.specs.Scopes.{begins, ends, picks_at, picks_at_end, picks_from};
+ghost use Rattle.crate_walk.specs.Scopes.{picks_of, picks_where};
 
 use crate::event::Event;
 use crate::modules::Modules;

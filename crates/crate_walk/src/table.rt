@@ -1,5 +1,6 @@
 //! The files that were read.
-ghost use Rattle.std.specs.Prelude.{◌≡◌, ◌++◌, ◌∷◌, [], false, IfOk, IfSome, OnOk, OnErr, IfNone, length, string_bytes};
+ghost use Rattle.std.specs.Prelude.{◌≡◌, ◌++◌, ◌∷◌, [], false, IfOk, IfSome, OnOk, OnErr, IfNone};
+ghost use Rattle.std.specs.Prelude.{length, string_bytes};
 ghost use Rattle.indexmap.specs.IndexSet.{contains_text};
 ghost use Rattle.crate_walk.specs.Tables.{Adds, HasName};
 

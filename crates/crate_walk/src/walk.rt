@@ -1,8 +1,11 @@
 //! Walks through the modules of a crate.
-ghost use Rattle.std.specs.Prelude.{◌≡◌, ◌+◌, ◌-◌, ◌<◌, ◌++◌, ◌∷◌, [], IfOk, OnOk, length, string_bytes};
-ghost use Rattle.crate_walk.specs.Frames.{Advances, AreRead, IsContentEntry, IsEntry, IsAllowed, IsNext, IsTurn, GoesOn, IsCounted, Starts, Turns};
+ghost use Rattle.std.specs.Prelude.{◌≡◌, ◌+◌, ◌-◌, ◌<◌, ◌++◌, ◌∷◌, [], IfOk, OnOk, length};
+ghost use Rattle.std.specs.Prelude.{string_bytes};
+ghost use Rattle.crate_walk.specs.Frames.{Advances, AreRead, IsContentEntry, IsEntry, IsAllowed};
+ghost use Rattle.crate_walk.specs.Frames.{IsNext, IsTurn, GoesOn, IsCounted, Starts, Turns};
 ghost use Rattle.crate_walk.specs.Modules.{AreModules};
-ghost use Rattle.crate_walk.specs.Frames.{at_next, behind_inline, behind_next, file_frame, here_of, inline_frame};
+ghost use Rattle.crate_walk.specs.Frames.{at_next, behind_inline, behind_next, file_frame, here_of};
+ghost use Rattle.crate_walk.specs.Frames.{inline_frame};
 ghost use Rattle.crate_walk.specs.Seeking.{found, seen};
 ghost use Rattle.crate_walk.specs.Tables.{AddsOrFinds, AreMore, IsTable};
 ghost use Rattle.crate_walk.specs.Files.{files_in};
