@@ -13,10 +13,10 @@ use Rattle.small_grammar.specs.Text.{is_empty, same_text, ◌>>=◌, ◌>>◌}
 use Rattle.cfg_options.specs.Conditions.{or_else}
 use Rattle.cfg_options.specs.Conditions.{Options, attribute_keeps, cfg_attr_keeps, cfg_keeps, cut_at_commas, is_kept, list_behind, listed, parenthesized, predicate_value}
 use Rattle.cfg_options.specs.Attributes.{and_also, first_value, found_among, found_at, found_before, found_in, found_in_all, found_inside, found_of_cfg, found_of_cfg_attr, found_of_other, keeps_at, misread_at, nothing_found, only_value, tokens_in}
-use Rattle.cfg_options.specs.Lists.{first_attribute}
+use Rattle.cfg_options.specs.Conditions.{first_attribute}
 use Rattle.cfg_options.specs.Misread.{begins_with_colon, first_among, misread, misread_inside, misread_within, own_misread, reads_cfg, reads_cfg_attr, span_of_name}
 use Rattle.cfg_options.specs.Options.{options_of}
-use Rattle.cfg_options.specs.Parts.{after_part, first_part}
+use Rattle.cfg_options.specs.Conditions.{after_part, first_part}
 use Rattle.cfg_options.specs.Strings.{string_text}
 use Rattle.cfg_options.specs.declared.attributes.Finding.{Finding}
 use Rattle.cfg_options.specs.declared.options.CfgOptions.{CfgOptions}

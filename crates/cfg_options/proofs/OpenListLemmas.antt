@@ -3,7 +3,8 @@ use Rattle.std.proofs.Common.{◌≡◌, ℕ, ◌+◌, ◌<◌, Bool, false, Lis
 use Rattle.tt_data.specs.Forest.{Forest, size}
 use Rattle.small_grammar.specs.Text.{is_empty}
 use Rattle.cfg_options.specs.OpenLists.{IsLess, IsWithin, left_in, value_around, whole_value}
-use Rattle.cfg_options.specs.Parts.{after_part, first_part, open_value, value_of_rest}
+use Rattle.cfg_options.specs.Parts.{open_value, value_of_rest}
+use Rattle.cfg_options.specs.Conditions.{after_part, first_part}
 use Rattle.cfg_options.specs.declared.predicate.OpenList.{OpenList}
 use Rattle.cfg_options.specs.declared.predicate.SoFar.{SoFar}
 use Rattle.cfg_options.specs.declared.predicate.Turn.{Turn}

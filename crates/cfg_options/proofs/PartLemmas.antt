@@ -8,7 +8,7 @@ use Rattle.bridge.specs.Text.{is_punct}
 use Rattle.small_grammar.specs.Text.{is_empty}
 use Rattle.cfg_options.specs.Conditions.{cut_at_commas}
 use Rattle.cfg_options.specs.Lists.{after_tree, begins_with_comma}
-use Rattle.cfg_options.specs.Parts.{after_part, first_part}
+use Rattle.cfg_options.specs.Conditions.{after_part, first_part}
 
 -- ---- one list after another
 

@@ -7,7 +7,8 @@ use Rattle.small_grammar.specs.Text.{is_empty}
 use Rattle.cfg_options.specs.Conditions.{or_else}
 use Rattle.cfg_options.specs.Conditions.{Options, list_behind, option_value, predicate_value}
 use Rattle.cfg_options.specs.OpenLists.{begun, left_in, list_of, lists_value, value_around, weight, whole_value}
-use Rattle.cfg_options.specs.Parts.{after_part, first_part, open_value}
+use Rattle.cfg_options.specs.Parts.{open_value}
+use Rattle.cfg_options.specs.Conditions.{after_part, first_part}
 use Rattle.cfg_options.specs.declared.predicate.OpenList.{OpenList}
 use Rattle.cfg_options.specs.declared.predicate.OpenLists.{OpenLists}
 use Rattle.cfg_options.specs.declared.predicate.SoFar.{SoFar}

@@ -8,7 +8,7 @@ use Rattle.cfg_options.specs.Conditions.{or_else}
 use Rattle.cfg_options.specs.Conditions.{attribute_keeps, cut_at_commas, is_kept, predicate_value}
 use Rattle.cfg_options.specs.Misread.{misread, misread_within, span_of_name}
 use Rattle.cfg_options.specs.Options.{options_of}
-use Rattle.cfg_options.specs.Parts.{after_part, first_part}
+use Rattle.cfg_options.specs.Conditions.{after_part, first_part}
 use Rattle.cfg_options.specs.Strings.{string_text}
 use Rattle.cfg_options.specs.declared.attributes.Finding.{Finding}
 use Rattle.cfg_options.specs.declared.attributes.Waiting.{Waiting}

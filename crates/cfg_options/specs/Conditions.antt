@@ -8,7 +8,7 @@ use Rattle.tt_data.specs.Literals.{LiteralParts}
 use Rattle.tt_data.specs.declared.delimiter.DelimiterKind.TheVariants.{Parenthesis, Bracket}
 use Rattle.tt_data.specs.declared.leaf.Ident.{Ident}
 use Rattle.tt_data.specs.declared.leaf.Leaf.TheVariants as as_leaf
-use Rattle.tt.specs.FirstTrees.{first_group, first_ident}
+use Rattle.tt.specs.FirstTrees.{first_group, first_ident, first_punct}
 use Rattle.bridge.specs.Text.{is_char, is_punct, same_kind}
 use Rattle.small_grammar.specs.Text.{is_word, is_empty, is_raw_name, same_text, ◌>>=◌, ◌>>◌}
 use Rattle.small_grammar.specs.Tokens.{is_among, path_words, reserved, words}
@@ -30,6 +30,27 @@ cut_at_commas (leaf l rest) begun =
     if is_punct "," l then begun ∷ cut_at_commas rest empty
     else cut_at_commas rest (joined begun (leaf l empty))
 cut_at_commas (group d inner rest) begun = cut_at_commas rest (joined begun (group d inner empty))
+
+-- the trees before the first comma
+abbrev pub first_part : Forest → Forest
+first_part empty = empty
+first_part (leaf l rest) = if is_punct "," l then empty else leaf l (first_part rest)
+first_part (group d inner rest) = group d inner (first_part rest)
+
+-- the trees after it
+abbrev pub after_part : Forest → Forest
+after_part empty = empty
+after_part (leaf l rest) = if is_punct "," l then rest else after_part rest
+after_part (group d inner rest) = after_part rest
+
+-- what is in the brackets of an outer attribute at the beginning, and what follows it
+abbrev pub first_attribute : Forest → Option (Forest × Forest)
+first_attribute f = do
+  (p, after_pound) ← first_punct f
+  is_char "#" p
+  (d, inner, rest) ← first_group after_pound
+  same_kind d.kind Bracket
+  Some (inner, rest)
 
 -- what follows the name with this text, raw or not, at the beginning
 abbrev pub after_name : List ℕ → Forest → Option Forest

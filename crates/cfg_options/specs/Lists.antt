@@ -3,9 +3,8 @@ use Rattle.std.specs.Prelude.{Bool, false, Option, Some, None, unwrap_or}
 use Rattle.tt_data.specs.Forest.{Forest, empty, leaf, group}
 use Rattle.tt_data.specs.Literals.{LiteralParts}
 use Rattle.tt_data.specs.declared.leaf.Leaf.TheVariants as as_leaf
-use Rattle.tt_data.specs.declared.delimiter.DelimiterKind.TheVariants.{Bracket}
-use Rattle.tt.specs.FirstTrees.{first_group, first_punct}
-use Rattle.bridge.specs.Text.{is_char, same_kind}
+use Rattle.tt.specs.FirstTrees.{first_punct}
+use Rattle.bridge.specs.Text.{is_char}
 use Rattle.small_grammar.specs.Text.{◌>>=◌, ◌>>◌}
 
 -- a comma is at the beginning
@@ -13,15 +12,6 @@ abbrev pub begins_with_comma : Forest → Bool
 begins_with_comma f = unwrap_or (do
   (p, rest) ← first_punct f
   Some (is_char "," p)) false
-
--- what is in the brackets of an outer attribute at the beginning, and what follows it
-abbrev pub first_attribute : Forest → Option (Forest × Forest)
-first_attribute f = do
-  (p, after_pound) ← first_punct f
-  is_char "#" p
-  (d, inner, rest) ← first_group after_pound
-  same_kind d.kind Bracket
-  Some (inner, rest)
 
 -- the literal that is all of the trees, behind a `=`
 abbrev pub value_in : Forest → Option LiteralParts

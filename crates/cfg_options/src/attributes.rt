@@ -6,9 +6,9 @@ ghost use Rattle.cfg_options.specs.Attributes.{IsLater, and_also, first_value, f
 ghost use Rattle.cfg_options.specs.Attributes.{found_before, found_inside, found_next};
 ghost use Rattle.cfg_options.specs.Attributes.{found_of_cfg, found_of_cfg_attr, found_of_other};
 ghost use Rattle.cfg_options.specs.Attributes.{found_waiting, only_value, tokens_waiting};
-ghost use Rattle.cfg_options.specs.Lists.{first_attribute};
+ghost use Rattle.cfg_options.specs.Conditions.{first_attribute};
 ghost use Rattle.cfg_options.specs.Misread.{begins_with_colon, span_of_name};
-ghost use Rattle.cfg_options.specs.Parts.{after_part};
+ghost use Rattle.cfg_options.specs.Conditions.{after_part};
 ghost use Rattle.cfg_options.specs.declared.options.CfgOptions.{CfgOptions};
 
 use crate::options::CfgOptions;
@@ -265,8 +265,9 @@ fn found_at(options: &CfgOptions, attribute: &TtIter<'_>) -> Result<Finding, All
     }
 }
 
-// What is in the brackets of an outer attribute at the beginning, and what follows it.
-fn first_attribute<'a>(trees: &TtIter<'a>) -> Option<(TtIter<'a>, TtIter<'a>)>
+/// What is in the brackets of an outer attribute at the beginning, and what follows it. (The Rust
+/// Reference, "Attributes".)
+pub fn first_attribute<'a>(trees: &TtIter<'a>) -> Option<(TtIter<'a>, TtIter<'a>)>
     ensures { result ≡ first_attribute trees.now }
 {
     let (pound, after_pound) = trees.first_punct()?;

@@ -12,6 +12,8 @@ mod reading;
 mod strings;
 mod words;
 
+pub use attributes::first_attribute;
 pub use fault::CfgFault;
 pub use options::CfgOptions;
+pub use parts::split_part;
 pub use strings::string_text;

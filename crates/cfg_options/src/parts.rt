@@ -1,7 +1,7 @@
 //! The parts of a list between commas, and what a list begins with.
 ghost use Rattle.std.specs.Prelude.{◌≡◌};
 ghost use Rattle.cfg_options.specs.Lists.{after_tree, begins_with_comma};
-ghost use Rattle.cfg_options.specs.Parts.{after_part, first_part};
+ghost use Rattle.cfg_options.specs.Conditions.{after_part, first_part};
 ghost use Rattle.cfg_options.specs.Conditions.{after_name, list_behind, parenthesized};
 
 use tt::TtIter;
@@ -28,8 +28,8 @@ fn after_tree<'a>(trees: &TtIter<'a>) -> Option<TtIter<'a>>
     Some(rest)
 }
 
-/// The trees before the first comma, and those after it.
-pub(crate) fn split_part<'a>(list: &TtIter<'a>) -> (TtIter<'a>, TtIter<'a>)
+/// The trees before the first comma, and those after it. Commas in groups do not count.
+pub fn split_part<'a>(list: &TtIter<'a>) -> (TtIter<'a>, TtIter<'a>)
     ensures part { result.0 ≡ first_part list.now }
     ensures rest { result.1 ≡ after_part list.now }
 {

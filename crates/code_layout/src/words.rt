@@ -1,7 +1,9 @@
 //! The tokens of a text without the white space between them.
-ghost use Rattle.std.specs.Prelude.{Some, false, slice_get, ◌≡◌, ◌≢◌, ◌<◌, ◌^◌, ◌↔◌, ◌+◌, ◌++◌, List, IfOk, OnOk, IsTrue, drop, length, take};
+ghost use Rattle.std.specs.Prelude.{Some, false, slice_get, ◌≡◌, ◌≢◌, ◌<◌, ◌^◌, ◌↔◌, ◌+◌, ◌++◌};
+ghost use Rattle.std.specs.Prelude.{List, IfOk, OnOk, IsTrue, drop, length, take};
 ghost use Rattle.code_layout.specs.Places.{all_words, word_of};
-ghost use Rattle.code_layout.specs.Words.{Word, is_white, joins, shown, takes_equals, takes_greater, words_of};
+ghost use Rattle.code_layout.specs.Words.{Word, is_white, joins, shown, takes_equals};
+ghost use Rattle.code_layout.specs.Words.{takes_greater, words_of};
 ghost use Rattle.rustc_lexer.specs.TokensAt.{IsTokenAt};
 
 use rustc_lexer::{FrontmatterAllowed, Token, TokenKind, laws, tokenize};

@@ -7,7 +7,8 @@ use Rattle.expander_model.specs.Definitions.{after_word}
 use Rattle.tt_data.specs.Forest.{Forest, empty, leaf, group}
 use Rattle.tt_data.specs.declared.delimiter.DelimiterKind.TheVariants.{Bracket}
 use Rattle.tt_data.specs.declared.leaf.Leaf.TheVariants as as_leaf
-use Rattle.crate_items.specs.Attributes.{attributes, first_attribute, has_attribute, has_text, path_of}
+use Rattle.cfg_options.specs.Conditions.{first_attribute}
+use Rattle.crate_items.specs.Attributes.{attributes, has_text, path_of}
 
 -- the first of them before the others, if there is one
 abbrev listed : Option (Forest × Forest) → List Forest
@@ -46,26 +47,7 @@ attributes_at f inner rest e = attributes-first f ∙ ap listed e
 no_attributes : (f : Forest) → first_attribute f ≡ None → attributes f ≡ []
 no_attributes f e = attributes-first f ∙ ap listed e
 
--- an attribute that does not begin with the word is passed
-pub other_attribute : (word : List ℕ) (f inner rest : Forest)
-    → first_attribute f ≡ Some (inner, rest) → is_some (after_word word inner) ≡ false
-    → has_attribute word f ≡ has_attribute word rest
-other_attribute word f inner rest e h =
-    rw (attributes_at f inner rest e) (ap (λ (b : Bool). b || has_attribute word rest) h)
-
--- one that does is found
-pub this_attribute : (word : List ℕ) (f inner rest : Forest)
-    → first_attribute f ≡ Some (inner, rest) → is_some (after_word word inner) ≡ true
-    → has_attribute word f ≡ true
-this_attribute word f inner rest e h =
-    rw (attributes_at f inner rest e) (ap (λ (b : Bool). b || has_attribute word rest) h)
-
--- none is found where there is none
-pub no_attribute : (word : List ℕ) (f : Forest) → first_attribute f ≡ None
-    → has_attribute word f ≡ false
-no_attribute word f e = rw (no_attributes f e) refl
-
--- the same of `path`
+-- of `path`
 abbrev path_in : List Forest → Option (List ℕ)
 path_in l = find (λ a. is_some (after_word (codes "path") a)) l >>= has_text
 

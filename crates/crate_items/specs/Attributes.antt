@@ -1,35 +1,22 @@
 -- Outer attributes. (The Rust Reference, "Attributes"; "Modules": the `path` attribute.)
-use Rattle.std.specs.Prelude.{ℕ, Bool, ◌&&◌, List, [], ◌∷◌, codes, Option, Some, None, option_map, is_some, if◌then◌else◌}
-use Rattle.std.specs.List.{find, list_any}
+use Rattle.std.specs.Prelude.{ℕ, ◌&&◌, List, [], ◌∷◌, codes, Option, Some, None, option_map, is_some, if◌then◌else◌}
+use Rattle.std.specs.List.{find}
 use Rattle.std.specs.Str.Lossy.{utf8_lossy}
 use Rattle.bridge.specs.Text.{is_char, same_kind}
 use Rattle.cfg_options.specs.Strings.{string_text}
 use Rattle.expander_model.specs.Definitions.{after_word}
 use Rattle.small_grammar.specs.Text.{◌>>=◌, ◌>>◌}
-use Rattle.tt.specs.FirstTrees.{first_group, first_punct}
+use Rattle.tt.specs.FirstTrees.{first_punct}
 use Rattle.tt_data.specs.Forest.{Forest, empty, leaf, group}
 use Rattle.tt_data.specs.Literals.{LiteralParts}
 use Rattle.tt_data.specs.declared.delimiter.DelimiterKind.TheVariants.{Bracket}
 use Rattle.tt_data.specs.declared.leaf.Leaf.TheVariants as as_leaf
-
--- what is in the brackets of the outer attribute at the beginning, and what follows it
-abbrev pub first_attribute : Forest → Option (Forest × Forest)
-first_attribute f = do
-  (p, after_pound) ← first_punct f
-  is_char "#" p
-  (d, inner, rest) ← first_group after_pound
-  same_kind d.kind Bracket
-  Some (inner, rest)
 
 -- what is in the brackets of each outer attribute of a piece, in order
 abbrev pub attributes : Forest → List Forest
 attributes (leaf (as_leaf.Punct p) (group d inner rest)) =
     if is_char "#" p && same_kind d.kind Bracket then inner ∷ attributes rest else []
 attributes f = []
-
--- one of the outer attributes of a piece begins with this word
-abbrev pub has_attribute : List ℕ → Forest → Bool
-has_attribute word piece = list_any (λ a. is_some (after_word word a)) (attributes piece)
 
 -- the literal that is all of the trees
 abbrev pub only_literal : Forest → Option LiteralParts

@@ -4,7 +4,8 @@ use Rattle.std.specs.Prelude.{ℕ, zero, suc, Bool, List, [], ◌∷◌, ◌++�
 use Rattle.std.specs.Global.{Global}
 use Rattle.cfg_options.specs.Conditions.{Options, is_kept}
 use Rattle.cfg_options.specs.Strings.{string_text}
-use Rattle.crate_items.specs.Attributes.{has_attribute, path_of}
+use Rattle.crate_items.specs.Attributes.{path_of}
+use Rattle.expander_model.specs.Definitions.{has_attribute}
 use Rattle.crate_items.specs.ImportEvents.{import_of}
 use Rattle.crate_items.specs.Imports.{Import, imports_of}
 use Rattle.crate_items.specs.Heads.{braced, crate_alias, crate_head, module_head}

@@ -2,44 +2,14 @@
 ghost use Rattle.std.specs.Prelude.{◌≡◌, ◌<◌, IfOk, IfSome, codes, option_map, string_bytes};
 ghost use Rattle.tt_data.specs.Forest.{size};
 ghost use Rattle.tt_data.specs.Lent.{literal_lent};
-ghost use Rattle.crate_items.specs.Attributes.{first_attribute, has_attribute, has_text};
-ghost use Rattle.crate_items.specs.Attributes.{only_literal, path_literal, path_of, text_of};
+ghost use Rattle.crate_items.specs.Attributes.{has_text, only_literal, path_literal, path_of};
+ghost use Rattle.crate_items.specs.Attributes.{text_of};
 
-use cfg_options::string_text;
+use cfg_options::{first_attribute, string_text};
 use expander_model::definition::after_word;
 use std::alloc::{AllocError, Global};
 use tt::TtIter;
-use tt_data::{DelimiterKind, LeafRef, LiteralRef};
-
-// What is in the brackets of an outer attribute at the beginning, and what follows it.
-fn first_attribute<'a>(trees: &TtIter<'a>) -> Option<(TtIter<'a>, TtIter<'a>)>
-    ensures { result ≡ first_attribute trees.now }
-{
-    let (pound, after_pound) = trees.first_punct()?;
-    if pound.char != '#' {
-        return None;
-    }
-    let (brackets, inner, rest) = after_pound.first_group()?;
-    if brackets.kind == DelimiterKind::Bracket {
-        Some((inner, rest))
-    } else {
-        None
-    }
-}
-
-/// Whether one of the outer attributes of a piece begins with this word.
-pub(crate) fn has_attribute(piece: &TtIter<'_>, word: &str) -> bool
-    ensures { result ≡ has_attribute word.now piece.now }
-{
-    let mut rest = piece.copied();
-    while let Some((inner, after)) = first_attribute(&rest) {
-        if after_word(&inner, word).is_some() {
-            return true;
-        }
-        rest = after;
-    }
-    false
-}
+use tt_data::{LeafRef, LiteralRef};
 
 // The literal that is all of the trees.
 fn only_literal<'a>(trees: &TtIter<'a>) -> Option<LiteralRef<'a>>

@@ -3,10 +3,10 @@ ghost use Rattle.std.specs.Prelude.{◌≡◌, IfOk, option_map, string_bytes};
 ghost use Rattle.crate_items.specs.Items.{macro_at, macro_in, macro_of, module_at, module_of};
 ghost use Rattle.crate_items.specs.Items.{other_at, other_in, other_of};
 
-use crate::attributes::{has_attribute, path_of};
+use crate::attributes::path_of;
 use crate::heads::{crate_alias, crate_head};
 use crate_walk::{CrateItem, MacroItem, ModuleItem};
-use expander_model::definition::definition_of;
+use expander_model::definition::{definition_of, has_attribute};
 use std::alloc::{AllocError, Global};
 use tt::TtIter;
 use tt_data::Ident;

@@ -13,7 +13,7 @@ ghost use Rattle.crate_items.specs.ImportEvents.{import_of, names_in, use_of};
 
 use crate::events::text;
 use crate::heads::{behind_visibility, braced, is_semicolon};
-use crate::parts::split_part;
+use cfg_options::split_part;
 use crate_walk::{Event, ImportItem};
 use expander_model::definition::{after_attributes, after_pub, after_word};
 use small_grammar::names::has_text;

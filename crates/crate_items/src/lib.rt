@@ -6,7 +6,6 @@ mod events;
 mod heads;
 mod imports;
 mod items;
-mod parts;
 mod reading;
 
 pub use reading::{content_of, content_of_bytes};

@@ -1,23 +1,32 @@
 //! Laws of the definitions, for those who read them. A call does nothing: it only states.
-ghost use Rattle.std.specs.Prelude.{◌≡◌, ◌≢◌, ◌↔◌, ℕ, ◌+◌, ◌≤◌, ◌<◌, ◌^◌, false, true, All, Contains, List, [], ◌∷◌, ◌++◌, filter, filter_map, flat_map, length, map, IsUtf8, Option, Some, None, Ok, option_map, unwrap_or};
+ghost use Rattle.std.specs.Prelude.{◌≡◌, ◌≢◌, ◌↔◌, ℕ, ◌+◌, ◌≤◌, ◌<◌, ◌^◌, false, true, All};
+ghost use Rattle.std.specs.Prelude.{Contains, List, [], ◌∷◌, ◌++◌, filter, filter_map, flat_map};
+ghost use Rattle.std.specs.Prelude.{length, map, IsUtf8, Option, Some, None, Ok, option_map};
+ghost use Rattle.std.specs.Prelude.{unwrap_or};
 ghost use Rattle.std.specs.List.Sorted.{IsPermutation, IsSortedBy};
 ghost use Rattle.expander_session.specs.Agreement.{FoundIn, scope_of};
 ghost use Rattle.expander_session.specs.Answers.{AreAnswers, ShowTheSame, last_text};
 ghost use Rattle.expander_model.specs.Calls.{is_colons, marked, unmarked};
 ghost use Rattle.expander_model.specs.CallSteps.{call_at, first_call, key_at};
 ghost use Rattle.expander_model.specs.Changes.{outcome_with};
-ghost use Rattle.expander_session.specs.Count.{Looked, expanded_count, finds_within, is_same, looked_of};
+ghost use Rattle.expander_session.specs.Count.{Looked, expanded_count, finds_within, is_same};
+ghost use Rattle.expander_session.specs.Count.{looked_of};
 ghost use Rattle.expander_model.specs.EqualTrees.{same_forest};
 ghost use Rattle.expander_model.specs.Expansion.{World, expansion, followed_by, grouped, placed};
 ghost use Rattle.expander_session.specs.Expanded.{Expanded, origin_text};
 ghost use Rattle.expander_model.specs.Faults.{comes_before, in_order};
 ghost use Rattle.expander.specs.FixedPoint.{IsFixedPoint, RepliesWith};
-ghost use Rattle.expander_model.specs.Held.{IsMet, Known, Met, TellsApart, kept_after, numbered_scope, numbered_world, present, unnumbered};
+ghost use Rattle.expander_model.specs.Held.{IsMet, Known, Met, TellsApart, kept_after};
+ghost use Rattle.expander_model.specs.Held.{numbered_scope, numbered_world, present, unnumbered};
 ghost use Rattle.expander_model.specs.DefinitionTrees.{definition_trees, trees_in};
-ghost use Rattle.expander_session.specs.Laws.{AreAllPlain, ExpandsNothing, Fails, FindsAsBefore, HasNoWord, IsEnded, IsParted, why_failed};
+ghost use Rattle.expander_session.specs.Laws.{AreAllPlain, ExpandsNothing, Fails, FindsAsBefore};
+ghost use Rattle.expander_session.specs.Laws.{HasNoWord, IsEnded, IsParted, why_failed};
 ghost use Rattle.expander_session.specs.Layered.{layers};
-ghost use Rattle.expander_model.specs.Meaning.{Layers, ReadMeaning, definitions_after, faults_of, meaning, meaning_in, member_faults, members, members_after, output, output_of};
-ghost use Rattle.expander_scope.specs.Numbers.{AreEntries, Numbering, number_in, number_of, tree_of, with_trees};
+ghost use Rattle.expander_model.specs.Meaning.{Layers, ReadMeaning, definitions_after, faults_of};
+ghost use Rattle.expander_model.specs.Meaning.{meaning, meaning_in, member_faults, members};
+ghost use Rattle.expander_model.specs.Meaning.{members_after, output, output_of};
+ghost use Rattle.expander_scope.specs.Numbers.{AreEntries, Numbering, number_in, number_of};
+ghost use Rattle.expander_scope.specs.Numbers.{tree_of, with_trees};
 ghost use Rattle.expander_scope.specs.NewNumbers.{needed};
 ghost use Rattle.expander_model.specs.OtherPlaces.{CommutesWithMarker, definition_with};
 ghost use Rattle.expander.specs.PieceTokens.{AreWords, placed_tokens, written_in};
@@ -25,10 +34,12 @@ ghost use Rattle.expander.specs.PieceTrees.{own_tree};
 ghost use Rattle.expander.specs.SessionCalls.{IsAfter, SessionCall};
 ghost use Rattle.expander_model.specs.Pieces.{cut, pieces, put_together, relative, separated};
 ghost use Rattle.expander_model.specs.Printing.{left_out};
-ghost use Rattle.expander_session.specs.Replies.{HasCause, IsReplyIn, IsReplyTo, NeedsNumbers, Replies, definitions_in};
+ghost use Rattle.expander_session.specs.Replies.{HasCause, IsReplyIn, IsReplyTo, NeedsNumbers};
+ghost use Rattle.expander_session.specs.Replies.{Replies, definitions_in};
 ghost use Rattle.expander_session.specs.Reuse.{HeldPiece, IsHeld, looked_at, looked_held, matches};
 ghost use Rattle.expander_session.specs.State.{State, layers_of};
-ghost use Rattle.expander_session.specs.TextTurn.{InEntries, IsNext, IsTurn, held_of, is_unmatched, kept_entries, numbering_of, taken_after};
+ghost use Rattle.expander_session.specs.TextTurn.{InEntries, IsNext, IsTurn, held_of, is_unmatched};
+ghost use Rattle.expander_session.specs.TextTurn.{kept_entries, numbering_of, taken_after};
 ghost use Rattle.expander_model.specs.declared.call.Call.{Call};
 ghost use Rattle.expander_model.specs.Definitions.{Definition, definition_of};
 ghost use Rattle.expander_model.specs.Scoping.{found_in};
@@ -370,19 +381,22 @@ fn valid_memos_are_new_expansions()
         TellsApart number_of trees → All (IsMet (Known number_of trees)) before →
         IsHeld world depth (Known number_of trees) q →
         matches (numbered_scope world.dialect before) tree q ≡ true → q.outcome
-        ≡ expanded (numbered_world world) unnumbered (numbered_scope world.dialect before) depth tree }
+        ≡ expanded (numbered_world world) unnumbered (numbered_scope world.dialect before) depth
+        tree }
     ensures counted { (world : World Definition) (depth : ℕ) (number_of : Forest →
         ℕ) (trees : List Forest) (before : List Met) (tree : Forest) (q : HeldPiece) →
         TellsApart number_of trees → All (IsMet (Known number_of trees)) before →
         IsHeld world depth (Known number_of trees) q →
-        is_same (looked_at tree (expanded (numbered_world world) unnumbered (numbered_scope world.dialect before)
+        is_same (looked_at tree (expanded (numbered_world world) unnumbered
+        (numbered_scope world.dialect before)
         depth tree)) (looked_held q) ≡ matches (numbered_scope world.dialect before) tree q }
     ensures fresh { (world : World Definition) (depth : ℕ) (number_of : Forest →
         ℕ) (trees : List Forest) (before : List Met) (tree : Forest) →
         All (IsMet (Known number_of trees)) before →
         IsHeld world depth (Known number_of trees) (record {
           tree = tree;
-          outcome = expanded (numbered_world world) unnumbered (numbered_scope world.dialect before) depth tree;
+          outcome = expanded (numbered_world world) unnumbered (numbered_scope world.dialect before)
+              depth tree;
         }) }
 {
     equal_pieces();
@@ -470,7 +484,8 @@ pub fn unchanged_lookups_are_cache_hits()
         pieces f ≡ ones ++ p ∷ more_ones → pieces g ≡ twos ++ q ∷ more_twos → relative p
         ≡ relative q →
         FindsAsBefore (found_in dialect (definitions_after [] twos))
-        (expanded (world grammar edition dialect) (λ d. d) (found_in dialect (definitions_after [] ones))
+        (expanded (world grammar edition dialect) (λ d.
+        d) (found_in dialect (definitions_after [] ones))
         depth p).finds →
         expanded_count (Some (looked_of (members (layers grammar edition dialect) depth f)))
         (looked_of (members_after (layers grammar edition dialect) depth
@@ -481,7 +496,8 @@ pub fn unchanged_lookups_are_cache_hits()
         pieces f ≡ ones ++ p ∷ more_ones → pieces g ≡ twos ++ q ∷ more_twos → relative p
         ≡ relative q →
         FindsAsBefore (found_in dialect (definitions_after [] twos))
-        (expanded (world grammar edition dialect) (λ d. d) (found_in dialect (definitions_after [] ones))
+        (expanded (world grammar edition dialect) (λ d.
+        d) (found_in dialect (definitions_after [] ones))
         depth p).finds →
         expanded_count (Some (looked_of (members (layers grammar edition dialect) depth f)))
         (looked_of (members (layers grammar edition dialect) depth g))
@@ -497,7 +513,8 @@ pub fn unchanged_lookups_are_cache_hits()
         pieces f ≡ ones ++ p ∷ more_ones → pieces g ≡ twos ++ q ∷ more_twos → relative p
         ≡ relative q →
         FindsAsBefore (found_in dialect (definitions_after [] twos))
-        (expanded (world grammar edition dialect) (λ d. d) (found_in dialect (definitions_after [] ones))
+        (expanded (world grammar edition dialect) (λ d.
+        d) (found_in dialect (definitions_after [] ones))
         depth p).finds →
         IsReplyTo (layers grammar edition dialect) depth other
         (Some (looked_of (members (layers grammar edition dialect) depth f))) (Read e) →

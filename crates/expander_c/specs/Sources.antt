@@ -5,7 +5,8 @@ use Rattle.tt_data.specs.fault.TtFault.TheVariants as fault
 use Rattle.symbols.specs.declared.fault.TtFault.{TtFault}
 use Rattle.expander_sources.specs.Homes.{Home}
 use Rattle.expander_sources.specs.Picks.{picked, rooted_picks}
-use Rattle.expander_sources.specs.Sources.{Item, Source, has_attribute, item_at}
+use Rattle.expander_sources.specs.Sources.{Item, Source, item_at}
+use Rattle.expander_model.specs.Definitions.{has_attribute}
 use Rattle.expander_c.specs.declared.code.Code.{Code}
 use Rattle.expander_c.specs.declared.code.Code.TheVariants as code
 use Rattle.expander_c.specs.declared.sources.Pick.{Pick}

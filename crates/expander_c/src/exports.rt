@@ -1,7 +1,10 @@
 //! What C calls. Each answers a code by its number.
 ghost use Rattle.std.specs.Prelude.{◌≡◌, None, ⊤};
-ghost use Rattle.expander_c.specs.Answered.{CountsTold, FaultTold, OfExpansion, OriginsTold, PrintedTold, ReadingFaultTold, SourcesTold, TokenRangesTold};
-ghost use Rattle.expander_c.specs.Calls.{BoundaryTold, EditTold, ExpandTold, FitTold, PreludeTold, SourceAdded, top_options};
+ghost use Rattle.expander_c.specs.Answered.{CountsTold, FaultTold, OfExpansion, OriginsTold};
+ghost use Rattle.expander_c.specs.Answered.{PrintedTold, ReadingFaultTold, SourcesTold};
+ghost use Rattle.expander_c.specs.Answered.{TokenRangesTold};
+ghost use Rattle.expander_c.specs.Calls.{BoundaryTold, EditTold, ExpandTold, FitTold, PreludeTold};
+ghost use Rattle.expander_c.specs.Calls.{SourceAdded, top_options};
 ghost use Rattle.expander_c.specs.Conditions.{texts};
 ghost use Rattle.expander_c.specs.Tellings.{Looks, Opened, OpenedBy, Tells, TextTold, Told};
 

@@ -1,6 +1,8 @@
 //! What is told of the last answer, written to where the caller says.
 ghost use Rattle.std.specs.Prelude.{◌≡◌};
-ghost use Rattle.expander_c.specs.Answered.{CountsTold, FaultTold, OfExpansion, OriginsTold, PrintedTold, ReadingFaultTold, SourcesTold, TokenRangesTold};
+ghost use Rattle.expander_c.specs.Answered.{CountsTold, FaultTold, OfExpansion, OriginsTold};
+ghost use Rattle.expander_c.specs.Answered.{PrintedTold, ReadingFaultTold, SourcesTold};
+ghost use Rattle.expander_c.specs.Answered.{TokenRangesTold};
 
 use crate::answers::{ByteRange, Counts, ToldFault, counted, told, told_unread};
 use crate::code::Code;

@@ -1,6 +1,9 @@
 //! A session with its last answer: what a handle of C's holds.
 ghost use Rattle.std.specs.Prelude.{◌≡◌, ◌<◌, ◌^◌, length, IfOk, IfErr, IsUtf8, MatchResult};
-ghost use Rattle.expander_c.specs.Calls.{BoundaryTold, CannotOpen, EditTold, ExpandTold, FitTold, IsHome, IsNew, IsSource, NoHome, NoSource, NoText, PreludeTold, SourceAdded, dialect_of, edition_of, grammar_of, limit_of, limits_of};
+ghost use Rattle.expander_c.specs.Calls.{BoundaryTold, CannotOpen, EditTold, ExpandTold, FitTold};
+ghost use Rattle.expander_c.specs.Calls.{IsHome, IsNew, IsSource, NoHome, NoSource, NoText};
+ghost use Rattle.expander_c.specs.Calls.{PreludeTold, SourceAdded, dialect_of, edition_of};
+ghost use Rattle.expander_c.specs.Calls.{grammar_of, limit_of, limits_of};
 
 use crate::answers::{SourceTold, told_unread};
 use crate::code::{Code, refused};

@@ -1,8 +1,11 @@
 //! Texts that a session may have definitions from beside its own text.
-ghost use Rattle.std.specs.Prelude.{◌≡◌, ◌<◌, ◌≤◌, ◌++◌, [], Some, IfOk, IfErr, OnOk, OnErr, flat_map, length};
+ghost use Rattle.std.specs.Prelude.{◌≡◌, ◌<◌, ◌≤◌, ◌++◌, [], Some, IfOk, IfErr, OnOk, OnErr};
+ghost use Rattle.std.specs.Prelude.{flat_map, length};
 ghost use Rattle.expander_sources.specs.Sources.{item_at};
 ghost use Rattle.expander_c.specs.declared.code.Code.TheVariants.{Done};
-ghost use Rattle.expander_c.specs.Sources.{IsWhyNot, behind_root, fault_code, index_code, index_of, open_pick, picked_by, picks_code, prelude_of, with_source};
+ghost use Rattle.expander_c.specs.Sources.{IsWhyNot, behind_root, fault_code, index_code, index_of};
+ghost use Rattle.expander_c.specs.Sources.{open_pick, picked_by, picks_code, prelude_of};
+ghost use Rattle.expander_c.specs.Sources.{with_source};
 
 use crate::code::Code;
 use expander::{Prelude, Source};

@@ -1,10 +1,11 @@
 -- The attributes before a definition, passed one by one.
-use Rattle.std.proofs.Common.{◌≡◌, ◌<◌, refl, ap, arith, Bool, true, false, if◌then◌else◌}
-use Rattle.std.specs.Prelude.{Some, None, ◌&&◌}
+use Rattle.std.proofs.Common.{◌≡◌, ◌<◌, ℕ, List, Option, refl, ap, arith, Bool, true, false, if◌then◌else◌, unwrap_or, ◌∙◌}
+use Rattle.std.specs.Prelude.{Some, None, is_some, ◌&&◌, ◌||◌}
 use Rattle.tt_data.specs.Forest.{Forest, empty, leaf, group, size}
 use Rattle.tt_data.specs.declared.delimiter.DelimiterKind.TheVariants.{Bracket}
 use Rattle.tt_data.specs.declared.leaf.Leaf.TheVariants as as_leaf
-use Rattle.expander_model.specs.Definitions.{after_attribute, after_attributes}
+use Rattle.cfg_options.specs.Conditions.{first_attribute}
+use Rattle.expander_model.specs.Definitions.{after_attribute, after_attributes, after_word, has_attribute}
 use Rattle.small_grammar.specs.Text.{◌>>◌}
 use Rattle.bridge.specs.Text.{is_char, same_kind}
 
@@ -59,3 +60,35 @@ after_attribute-smaller (leaf (as_leaf.Ident p) f) g e = cc
 after_attribute-smaller (leaf (as_leaf.Literal p) f) g e = cc
 after_attribute-smaller empty g e = cc
 after_attribute-smaller (group d inner rest) g e = cc
+
+-- ---- attributes by their first word
+
+abbrev attribute_if : Bool → Bool → Forest → Forest → Option (Forest × Forest)
+attribute_if pound brackets inner rest = ◌>>◌ {B = Forest × Forest} pound (◌>>◌ {B = Forest × Forest} brackets (Some (inner, rest)))
+
+-- an attribute that does not begin with the word is passed
+pub other_attribute : (word : List ℕ) (f inner rest : Forest) → first_attribute f ≡ Some (inner, rest) → is_some (after_word word inner) ≡ false
+    → has_attribute word f ≡ has_attribute word rest
+other_attribute word empty inner rest e h = cc
+other_attribute word (group d a r) inner rest e h = cc
+other_attribute word (leaf (as_leaf.Ident i) r) inner rest e h = cc
+other_attribute word (leaf (as_leaf.Literal l) r) inner rest e h = cc
+other_attribute word (leaf (as_leaf.Punct p) empty) inner rest e h = go (is_char "#" p) e
+  where
+    go : (b : Bool) → ◌>>◌ {B = Forest × Forest} b None ≡ Some (inner, rest) → false ≡ has_attribute word rest
+    go true e = cc
+    go false e = cc
+other_attribute word (leaf (as_leaf.Punct p) (leaf l r)) inner rest e h = go (is_char "#" p) e
+  where
+    go : (b : Bool) → ◌>>◌ {B = Forest × Forest} b None ≡ Some (inner, rest) → false ≡ has_attribute word rest
+    go true e = cc
+    go false e = cc
+other_attribute word (leaf (as_leaf.Punct p) (group d a r)) inner rest e h = go (is_char "#" p) (same_kind d.kind Bracket) e
+  where
+    go : (b c : Bool) → attribute_if b c a r ≡ Some (inner, rest) → ((b && c) && (is_some (after_word word a) || has_attribute word r)) ≡ has_attribute word rest
+    go true true e =
+        let both : (a, r) ≡ (inner, rest) = ap (λ (o : Option (Forest × Forest)). unwrap_or o (a, r)) e in
+        ap (λ (x : Forest × Forest). is_some (after_word word x.0) || has_attribute word x.1) both
+        ∙ ap (λ (b : Bool). b || has_attribute word rest) h
+    go true false e = cc
+    go false c e = cc

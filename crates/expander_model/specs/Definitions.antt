@@ -70,6 +70,13 @@ after_word word f = do
   has_text word w
   Some rest
 
+-- one of the outer attributes of a piece begins with this word
+abbrev pub has_attribute : List ℕ → Forest → Bool
+has_attribute word (leaf (as_leaf.Punct p) (group d inner rest)) =
+    (is_char "#" p && same_kind d.kind Bracket)
+    && (is_some (after_word word inner) || has_attribute word rest)
+has_attribute word f = false
+
 -- what follows a `pub`, with its parenthesis group, at the beginning
 abbrev pub after_pub : Forest → Option Forest
 after_pub f = do

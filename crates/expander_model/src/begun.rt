@@ -1,7 +1,10 @@
 //! What of a piece came so far, as far as its end and what it is depend on it.
 ghost use Rattle.std.specs.Prelude.{◌≡◌};
 ghost use Rattle.tt_data.specs.Lent.{ident_lent, leaf_lent};
-ghost use Rattle.expander_model.specs.PieceStates.{after_call, after_group, after_ident, after_leaf, after_literal, after_name, begun_with, by_word, holds_items, is_at_start, is_dropped, is_item_word, is_qualifier};
+ghost use Rattle.expander_model.specs.PieceStates.{after_call, after_group, after_ident};
+ghost use Rattle.expander_model.specs.PieceStates.{after_leaf, after_literal, after_name};
+ghost use Rattle.expander_model.specs.PieceStates.{begun_with, by_word, holds_items, is_at_start};
+ghost use Rattle.expander_model.specs.PieceStates.{is_dropped, is_item_word, is_qualifier};
 
 use small_grammar::names::has_text;
 use tt_data::{DelimiterKind, IdentRef, LeafRef, Punct};

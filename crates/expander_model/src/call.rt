@@ -1,7 +1,9 @@
 //! Finds the call that a list of trees begins with: a name, `!` and a visible group, side by side.
 ghost use Rattle.std.specs.Prelude.{◌≡◌, ◌++◌, Option, IfOk, IsOkUnless, codes, option_map};
 ghost use Rattle.expander_model.specs.Calls.{is_colons, is_foreign, is_root, key_behind};
-ghost use Rattle.expander_model.specs.CallSteps.{bare_call, call_after, call_at, call_behind_colons, foreign_root, group_call, key_at};
+ghost use Rattle.expander_model.specs.CallSteps.{bare_call, call_after, call_at};
+ghost use Rattle.expander_model.specs.CallSteps.{call_behind_colons, foreign_root, group_call};
+ghost use Rattle.expander_model.specs.CallSteps.{key_at};
 ghost use Rattle.expander_model.specs.Beginnings.{IsBeginning};
 ghost use Rattle.tt_data.specs.Forest.{leaf as leaf_tree};
 ghost use Rattle.tt_data.specs.Lent.{ident_lent, leaf_lent};

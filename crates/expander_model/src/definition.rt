@@ -1,7 +1,12 @@
 //! Finds whether a piece is a definition, and its parts.
 ghost use Rattle.std.specs.Prelude.{◌≡◌, Option, option_map, unwrap_or};
-ghost use Rattle.expander_model.specs.Definitions.{after_attribute, after_attributes, after_parenthesis, after_word, after_pub, after_macro_rules, is_semicolon, ends_definition, macro_rules_of, macro_body, macro_of, definition_of};
+ghost use Rattle.expander_model.specs.Definitions.{after_attribute, after_attributes};
+ghost use Rattle.expander_model.specs.Definitions.{after_parenthesis, after_word, after_pub};
+ghost use Rattle.expander_model.specs.Definitions.{after_macro_rules, has_attribute, is_semicolon};
+ghost use Rattle.expander_model.specs.Definitions.{ends_definition, macro_rules_of, macro_body};
+ghost use Rattle.expander_model.specs.Definitions.{macro_of, definition_of};
 
+use cfg_options::first_attribute;
 use small_grammar::names::has_text;
 use std::marker::Model;
 use tt::TtIter;
@@ -86,6 +91,20 @@ pub fn after_word<'a>(trees: &TtIter<'a>, word: &str) -> Option<TtIter<'a>>
     } else {
         None
     }
+}
+
+/// Whether one of the outer attributes of a piece begins with this word.
+pub fn has_attribute(piece: &TtIter<'_>, word: &str) -> bool
+    ensures { result ≡ has_attribute word.now piece.now }
+{
+    let mut rest = piece.copied();
+    while let Some((inner, after)) = first_attribute(&rest) {
+        if after_word(&inner, word).is_some() {
+            return true;
+        }
+        rest = after;
+    }
+    false
 }
 
 /// What follows a `pub`, with its parenthesis group, at the beginning.

@@ -6,7 +6,8 @@ ghost use Rattle.tt_data.specs.Lent.{leaf_lent};
 ghost use Rattle.expander_model.specs.Pieces.{is_pound_bang, ends_piece, separated};
 ghost use Rattle.bridge.specs.Text.{is_punct};
 ghost use Rattle.tt.specs.Building.{alone};
-ghost use Rattle.expander_model.specs.Splitting.{CutsOff, HasShape, PassesAlways, PassesTree, end_alone, put_all};
+ghost use Rattle.expander_model.specs.Splitting.{CutsOff, HasShape, PassesAlways, PassesTree};
+ghost use Rattle.expander_model.specs.Splitting.{end_alone, put_all};
 
 use std::alloc::{AllocError, Global};
 use tt::{TopSubtree, TtElement, TtIter};

@@ -1,6 +1,8 @@
 //! Reads a text piece by piece. A cached piece or segment is reused where its bytes occur again,
 //! else the next piece is read by itself.
-ghost use Rattle.std.specs.Prelude.{◌≡◌, ◌+◌, ◌<◌, ◌≤◌, ◌^◌, ◌++◌, ◌∷◌, [], IfOk, IfSome, IsOkUnless, List, None, Ok, OnOk, chars, drop, length, take, true, ℕ};
+ghost use Rattle.std.specs.Prelude.{◌≡◌, ◌+◌, ◌<◌, ◌≤◌, ◌^◌, ◌++◌, ◌∷◌, [], IfOk, IfSome};
+ghost use Rattle.std.specs.Prelude.{IsOkUnless, List, None, Ok, OnOk, chars, drop, length, take};
+ghost use Rattle.std.specs.Prelude.{true, ℕ};
 ghost use Rattle.std.specs.Rc.{rc_value};
 ghost use Rattle.rustc_lexer.specs.Lexing.{tokens_of};
 ghost use Rattle.rustc_lexer.specs.TokensAt.{AreTokensFrom};
@@ -8,7 +10,9 @@ ghost use Rattle.tt_data.specs.fault.TtFault.TheVariants as fault;
 ghost use Rattle.bridge.specs.Parts.{part_steps};
 ghost use Rattle.expander_reparse.specs.RecentPieces.{AreRight};
 ghost use Rattle.expander_reparse.specs.RelativePieces.{tree_at};
-ghost use Rattle.expander_reparse.specs.Reparsing.{AreMet, AreTheirs, IsBlank, IsLastPiece, IsMet, IsReparse, IsReadPiece, IsCachedHere, KeepsCached};
+ghost use Rattle.expander_reparse.specs.Reparsing.{AreMet, AreTheirs, IsBlank, IsLastPiece, IsMet};
+ghost use Rattle.expander_reparse.specs.Reparsing.{IsReparse, IsReadPiece, IsCachedHere};
+ghost use Rattle.expander_reparse.specs.Reparsing.{KeepsCached};
 ghost use Rattle.expander_reparse.specs.ParsedTexts.{IsReadInPieces};
 ghost use Rattle.expander_reparse.specs.Segments.{AreSegments, bytes_of, chars_ahead};
 ghost use Rattle.expander_reparse.specs.ByteStores.{HoldsText};

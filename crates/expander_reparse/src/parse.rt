@@ -3,7 +3,8 @@ ghost use Rattle.std.specs.Prelude.{◌≡◌, ◌<◌, ◌^◌, Err, IfOk, char
 ghost use Rattle.bridge.specs.ReadText.{HasTooMany};
 ghost use Rattle.bridge.specs.TokenSteps.{text_steps};
 ghost use Rattle.rustc_lexer.specs.Lexing.{tokens_of};
-ghost use Rattle.expander_reparse.specs.ParsedTexts.{HaveMet, HaveTheirs, IsReadApart, IsReadInPieces};
+ghost use Rattle.expander_reparse.specs.ParsedTexts.{HaveMet, HaveTheirs, IsReadApart};
+ghost use Rattle.expander_reparse.specs.ParsedTexts.{IsReadInPieces};
 ghost use Rattle.expander_reparse.specs.Segments.{AreSegments};
 
 use crate::incremental::read_by_pieces;

@@ -1,12 +1,14 @@
 //! What is cached of a text to read the next one: segments, their pieces, and the bytes that they
 //! were read from.
-ghost use Rattle.std.specs.Prelude.{◌≡◌, ◌≤◌, ◌++◌, [], IfOk, IfSome, IsOkUnless, Some, chars, drop, length, slice_get, take, true};
+ghost use Rattle.std.specs.Prelude.{◌≡◌, ◌≤◌, ◌++◌, [], IfOk, IfSome, IsOkUnless, Some, chars};
+ghost use Rattle.std.specs.Prelude.{drop, length, slice_get, take, true};
 ghost use Rattle.bridge.specs.Parts.{begins_with_mark};
 ghost use Rattle.rustc_lexer.specs.Lexing.{run_on};
 ghost use Rattle.std.specs.Rc.{rc_value};
 ghost use Rattle.tt_data.specs.fault.TtFault.TheVariants as fault;
 ghost use Rattle.expander_reparse.specs.Reparsing.{IsCachedHere};
-ghost use Rattle.expander_reparse.specs.Segments.{AreSegments, IsHeldAt, IsCachedSegment, IsCachedPiece, OccursFirst, all_in, chars_ahead};
+ghost use Rattle.expander_reparse.specs.Segments.{AreSegments, IsHeldAt, IsCachedSegment};
+ghost use Rattle.expander_reparse.specs.Segments.{IsCachedPiece, OccursFirst, all_in, chars_ahead};
 
 use crate::shared_bytes::SharedBytes;
 use bridge::parts::begins_with_mark;

@@ -1,10 +1,13 @@
 //! Collects the pieces of a text as they are read, and makes segments of them.
-ghost use Rattle.std.specs.Prelude.{◌≡◌, ℕ, ◌+◌, ◌-◌, ◌<◌, ◌≤◌, ◌++◌, ◌∷◌, ◌^◌, [], IfOk, IfSome, List, None, OnOk, chars, drop, length, map, take};
+ghost use Rattle.std.specs.Prelude.{◌≡◌, ℕ, ◌+◌, ◌-◌, ◌<◌, ◌≤◌, ◌++◌, ◌∷◌, ◌^◌, [], IfOk, IfSome};
+ghost use Rattle.std.specs.Prelude.{List, None, OnOk, chars, drop, length, map, take};
 ghost use Rattle.std.specs.Rc.{rc_value};
 ghost use Rattle.rustc_lexer.specs.Lexing.{run_on, tokens_of};
 ghost use Rattle.rustc_lexer.specs.TokensAt.{AreTokensFrom};
-ghost use Rattle.expander_reparse.specs.Reparsing.{AddsPieces, AddsSegment, AreMet, IsBegun, IsMet, IsReparse, TakesPart};
-ghost use Rattle.expander_reparse.specs.Segments.{AreSegments, IsCachedSegment, IsSegment, part_shown};
+ghost use Rattle.expander_reparse.specs.Reparsing.{AddsPieces, AddsSegment, AreMet, IsBegun, IsMet};
+ghost use Rattle.expander_reparse.specs.Reparsing.{IsReparse, TakesPart};
+ghost use Rattle.expander_reparse.specs.Segments.{AreSegments, IsCachedSegment, IsSegment};
+ghost use Rattle.expander_reparse.specs.Segments.{part_shown};
 ghost use Rattle.expander_reparse.specs.ByteStores.{HoldsText};
 
 use crate::piece::{Piece, PieceTree};

@@ -1,12 +1,14 @@
 //! A run of the program: it reads a text, expands it, writes the printed text and reports the
 //! faults.
-ghost use Rattle.std.specs.Prelude.{◌≡◌, ℕ, Err, [], ◌^◌, ◌<◌, false, List, length, take, Option, None, IfOk, IfErr, string_bytes};
+ghost use Rattle.std.specs.Prelude.{◌≡◌, ℕ, Err, [], ◌^◌, ◌<◌, false, List, length, take, Option};
+ghost use Rattle.std.specs.Prelude.{None, IfOk, IfErr, string_bytes};
 ghost use Rattle.std.specs.Io.KnownBytes.{Appends};
 ghost use Rattle.expander_model.specs.Meaning.{meaning_in};
 ghost use Rattle.expander_session.specs.Replies.{IsReplyIn, NeedsNumbersIn};
 ghost use Rattle.expander_session.specs.State.{definitions_of};
 ghost use Rattle.expander_run.specs.Lines.{report};
-ghost use Rattle.expander_run.specs.Runs.{IsAllOf, NeedsIds, Puts, Runs, RunsAfter, RunsBy, Tells, layers_of, status, status_of};
+ghost use Rattle.expander_run.specs.Runs.{IsAllOf, NeedsIds, Puts, Runs, RunsAfter, RunsBy, Tells};
+ghost use Rattle.expander_run.specs.Runs.{layers_of, status, status_of};
 ghost use Rattle.expander_session.specs.TooMany.{NeedsTooManyIn};
 ghost use Rattle.expander_run.specs.Steps.{PutsReply, Replied, StopsEarly, StopsReading};
 

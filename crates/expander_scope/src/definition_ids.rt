@@ -1,6 +1,7 @@
 //! Gives each definition of a text its id: that of an equal definition of this text or the last,
 //! or else the next one.
-ghost use Rattle.std.specs.Prelude.{◌≡◌, ◌≢◌, ℕ, ◌+◌, ◌≤◌, ◌^◌, ◌∷◌, [], ◌++◌, List, Some, Err, IfOk, IfSome, OnOk, is_some, option_map, true};
+ghost use Rattle.std.specs.Prelude.{◌≡◌, ◌≢◌, ℕ, ◌+◌, ◌≤◌, ◌^◌, ◌∷◌, [], ◌++◌, List, Some, Err};
+ghost use Rattle.std.specs.Prelude.{IfOk, IfSome, OnOk, is_some, option_map, true};
 ghost use Rattle.bridge.specs.ReadText.{text_top};
 ghost use Rattle.tt_data.specs.Forest.{Forest};
 ghost use Rattle.expander_scope.specs.Interning.{AllRead, IsTable, known_in, numbers_in};

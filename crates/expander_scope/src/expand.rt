@@ -1,6 +1,8 @@
 //! Expands a tree with piece-relative spans: expands its calls from left to right, and searches
 //! each result for further calls.
-ghost use Rattle.std.specs.Prelude.{◌≡◌, ◌-◌, ◌<◌, ℕ, ◌++◌, ◌∷◌, [], List, length, map, take, true, false, IfOk, IfNone, IfSome, IsOkUnless, OnOk, Option, Some, None, Err, is_some, option_map, if◌then◌else◌};
+ghost use Rattle.std.specs.Prelude.{◌≡◌, ◌-◌, ◌<◌, ℕ, ◌++◌, ◌∷◌, [], List, length, map, take, true};
+ghost use Rattle.std.specs.Prelude.{false, IfOk, IfNone, IfSome, IsOkUnless, OnOk, Option, Some};
+ghost use Rattle.std.specs.Prelude.{None, Err, is_some, option_map, if◌then◌else◌};
 ghost use Rattle.mbe.specs.Bursts as made_by;
 ghost use Rattle.mbe.specs.Macros.{rules_of};
 ghost use Rattle.mbe.specs.Markers.{is_name};
@@ -13,7 +15,8 @@ ghost use Rattle.tt_data.specs.fault.TtFault.TheVariants.{Memory};
 ghost use Rattle.expander_model.specs.Calls.{marked};
 ghost use Rattle.expander_model.specs.CallSteps.{call_at};
 ghost use Rattle.expander_model.specs.Definitions.{Definition, definition_of};
-ghost use Rattle.expander_model.specs.Expansion.{Deeper, PlacedStep, World, just, placed, search_calls};
+ghost use Rattle.expander_model.specs.Expansion.{Deeper, PlacedStep, World, just, placed};
+ghost use Rattle.expander_model.specs.Expansion.{search_calls};
 ghost use Rattle.expander_model.specs.Held.{Numbered, numbered_world, unnumbered};
 ghost use Rattle.expander_model.specs.Scoping.{is_left_out};
 ghost use Rattle.expander_model.specs.World.{fit_of, made, world};
@@ -32,7 +35,11 @@ ghost use Rattle.expander_scope.specs.LocalTables.{AreReadIn, locals_of};
 ghost use Rattle.expander_scope.specs.Outcomes.{find_of, numbered_of_known, parts_for, parts_of};
 ghost use Rattle.expander_scope.specs.Sinks.{TakesMore};
 ghost use Rattle.expander_scope.specs.ScopeTable.{AreRead, expanded_under, scope_in};
-ghost use Rattle.expander_scope.specs.Turns.{BeginsWithGroup, Goes, GoesBehind, GoesUnder, is_alone_at, IsAt, IsPassable, IsPlainAhead, begun_behind, broken_at, is_bare, kept_left, left_ahead, left_under, local_at, lookups_of, resolved, shown_of};
+ghost use Rattle.expander_scope.specs.Turns.{BeginsWithGroup, Goes, GoesBehind, GoesUnder};
+ghost use Rattle.expander_scope.specs.Turns.{is_alone_at, IsAt, IsPassable, IsPlainAhead};
+ghost use Rattle.expander_scope.specs.Turns.{begun_behind, broken_at, is_bare, kept_left};
+ghost use Rattle.expander_scope.specs.Turns.{left_ahead, left_under, local_at, lookups_of};
+ghost use Rattle.expander_scope.specs.Turns.{resolved, shown_of};
 
 use crate::event_sink::{EventSink, take_walk};
 use crate::list_walk::{ListWalk, definition_ahead, in_group, is_alone_at, out_ahead};

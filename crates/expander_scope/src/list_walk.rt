@@ -1,5 +1,6 @@
 //! A traversal of a list and of those in its groups that knows where their pieces begin.
-ghost use Rattle.std.specs.Prelude.{◌≡◌, ◌++◌, ◌∷◌, [], List, IfOk, IfSome, None, OnOk, Some, reverse};
+ghost use Rattle.std.specs.Prelude.{◌≡◌, ◌++◌, ◌∷◌, [], List, IfOk, IfSome, None, OnOk, Some};
+ghost use Rattle.std.specs.Prelude.{reverse};
 ghost use Rattle.tt_data.specs.declared.edition.Edition.{Edition};
 ghost use Rattle.expander_model.specs.PieceStates.{after_group};
 ghost use Rattle.expander_model.specs.WalkSteps.{groups_of};

@@ -16,7 +16,8 @@ pub(crate) struct Locals {
 }
 
 impl Locals {
-    ghost use Rattle.std.specs.Prelude.{◌≡◌, ◌∷◌, ◌++◌, [], List, IfSome, OnOk, length, option_map, true};
+    ghost use Rattle.std.specs.Prelude.{◌≡◌, ◌∷◌, ◌++◌, [], List, IfSome, OnOk, length, option_map};
+    ghost use Rattle.std.specs.Prelude.{true};
     ghost use Rattle.expander_model.specs.Definitions.{Definition, nearest};
     ghost use Rattle.expander_model.specs.Held.{unnumbered};
     ghost use Rattle.expander_scope.specs.Editions.{IsRead};

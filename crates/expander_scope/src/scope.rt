@@ -23,7 +23,8 @@ pub struct Scope {
 }
 
 impl Scope {
-    ghost use Rattle.std.specs.Prelude.{◌≡◌, ◌∷◌, [], List, IfOk, IfSome, OnOk, false, true, option_map};
+    ghost use Rattle.std.specs.Prelude.{◌≡◌, ◌∷◌, [], List, IfOk, IfSome, OnOk, false, true};
+    ghost use Rattle.std.specs.Prelude.{option_map};
     ghost use Rattle.expander_scope.specs.Editions.{IsRead};
     ghost use Rattle.expander_model.specs.Held.{Met};
     ghost use Rattle.expander_model.specs.Scoping.{is_out};

@@ -13,7 +13,9 @@ ghost use Rattle.expander_model.specs.Expansion.{placed};
 ghost use Rattle.expander_session.specs.CachedOutputs.{EmitsCached};
 ghost use Rattle.expander_session.specs.Emitting.{PutsOut};
 ghost use Rattle.expander_scope.specs.Outcomes.{placed_of, steps_for};
-ghost use Rattle.expander_session.specs.AbsoluteSpans.{base_at, range_from, resolved_by, resolved_faults, resolved_steps, told_if_broken};
+ghost use Rattle.expander_session.specs.AbsoluteSpans.{base_at, range_from, resolved_by};
+ghost use Rattle.expander_session.specs.AbsoluteSpans.{resolved_faults, resolved_steps};
+ghost use Rattle.expander_session.specs.AbsoluteSpans.{told_if_broken};
 
 use crate::cached_output::CachedText;
 use crate::emitter::{Emitter, emit_chunk, emit_chunk_at, push_step};

@@ -2,7 +2,8 @@
 ghost use Rattle.std.specs.Prelude.{◌≡◌, ◌∷◌, [], ◌++◌, IfOk, IfSome, List, OnOk, map};
 ghost use Rattle.bridge.specs.TokenEvents.{step_of};
 ghost use Rattle.expander_model.specs.Expansion.{PlacedStep, placed};
-ghost use Rattle.expander_session.specs.CachedOutputs.{HasPrinted, HasTaken, IsCachedText, IsOutputOf};
+ghost use Rattle.expander_session.specs.CachedOutputs.{HasPrinted, HasTaken, IsCachedText};
+ghost use Rattle.expander_session.specs.CachedOutputs.{IsOutputOf};
 ghost use Rattle.tt_data.specs.Forest.{Forest};
 ghost use Rattle.expander_session.specs.Emitting.{word_places};
 ghost use Rattle.expander_scope.specs.Outcomes.{placed_of};

@@ -1,6 +1,8 @@
 //! Evaluates the pieces of a text in order: adds definitions to the scope, takes the memos of
 //! plain pieces from the cache or expands the pieces, and emits the output.
-ghost use Rattle.std.specs.Prelude.{◌≡◌, ◌≢◌, ℕ, ◌+◌, ◌<◌, ◌≤◌, ◌^◌, [], ◌∷◌, ◌++◌, All, List, IfOk, IfSome, OnOk, None, Err, Option, Some, false, if◌then◌else◌, is_some, length, map, slice_get, true};
+ghost use Rattle.std.specs.Prelude.{◌≡◌, ◌≢◌, ℕ, ◌+◌, ◌<◌, ◌≤◌, ◌^◌, [], ◌∷◌, ◌++◌, All, List};
+ghost use Rattle.std.specs.Prelude.{IfOk, IfSome, OnOk, None, Err, Option, Some, false};
+ghost use Rattle.std.specs.Prelude.{if◌then◌else◌, is_some, length, map, slice_get, true};
 ghost use Rattle.std.specs.Global.{Global as GhostGlobal};
 ghost use Rattle.std.specs.List.{list_any};
 ghost use Rattle.std.specs.Rc.{rc_value};
@@ -30,7 +32,8 @@ ghost use Rattle.expander_model.specs.declared.dialect.Dialect.{Dialect};
 ghost use Rattle.expander_session.specs.Caches.{IsCache, IsRight, piece_of, trees_of};
 ghost use Rattle.expander_scope.specs.ScopeTable.{AreRead, HasMet, expanded_under, scope_in};
 ghost use Rattle.expander_scope.specs.DefinitionTexts.{HasNumbered};
-ghost use Rattle.expander_scope.specs.DefinitionIds.{AreNumbers, HaveNumbers, number_by, numbered_by};
+ghost use Rattle.expander_scope.specs.DefinitionIds.{AreNumbers, HaveNumbers, number_by};
+ghost use Rattle.expander_scope.specs.DefinitionIds.{numbered_by};
 ghost use Rattle.expander_scope.specs.NewNumbers.{needed};
 ghost use Rattle.expander_model.specs.OtherPlaces.{LooksAtNoPlace};
 ghost use Rattle.expander_scope.specs.Outcomes.{parts_of};
@@ -42,7 +45,9 @@ ghost use Rattle.expander_session.specs.AbsoluteSpans.{resolved_faults, resolved
 ghost use Rattle.expander_session.specs.LookupTrees.{IndexesMemos};
 ghost use Rattle.expander_session.specs.Memos.{tree_of};
 ghost use Rattle.expander_session.specs.Reuse.{matches};
-ghost use Rattle.expander_session.specs.Evaluating.{AreLinks, CanDefine, Evaluates, Grows, HasImported, Imports, IsEvaluated, MakesTooMany, NeedsMore};
+ghost use Rattle.expander_session.specs.Evaluating.{AreLinks, CanDefine, Evaluates, Grows};
+ghost use Rattle.expander_session.specs.Evaluating.{HasImported, Imports, IsEvaluated};
+ghost use Rattle.expander_session.specs.Evaluating.{MakesTooMany, NeedsMore};
 ghost use Rattle.expander_session.specs.TooMany.{bursts};
 ghost use Rattle.expander_session.specs.declared.memo_ref.MemoRef.TheVariants as as_link;
 ghost use Rattle.tt.specs.Tops.{Top};
@@ -380,7 +385,8 @@ fn evaluate_definition<G: FragmentGrammar>(
     ensures cause { (trees : List Forest) →
         HaveNumbers (numbers_in context.now.memory.now.by_tree) (trees_of context.now.memory.now) →
         HasNumbered context.now.memory.now.given context.now.memory.now.by_tree
-        (trees_of context.now.memory.now) trees now.old.taken.numbers → result ≡ Err Refusal.Numbers →
+        (trees_of context.now.memory.now) trees now.old.taken.numbers → result
+        ≡ Err Refusal.Numbers →
         2 ^ 32 ≤ context.now.memory.now.given + needed (trees_of context.now.memory.now)
         (trees ++ tree.value.inner ∷ []) }
     ensures tokens { result ≢ Err Refusal.Tokens }
@@ -415,7 +421,8 @@ fn evaluate_import<G: FragmentGrammar>(
     import: &Import,
 ) -> Result<(), Refusal>
     requires import { IsImport import.now }
-    requires have { HaveNumbers (numbers_in context.now.memory.now.by_tree) (trees_of context.now.memory.now) }
+    requires have { HaveNumbers (numbers_in context.now.memory.now.by_tree)
+        (trees_of context.now.memory.now) }
     requires can { CanDefine context.now.memory.now now.old }
     ensures taken { (grammar : Grammar) (depth : ℕ) →
         OnOk result (Imports grammar now.old.scope.edition context.now.dialect.now depth
@@ -730,7 +737,8 @@ pub(crate) fn evaluate_pieces<G: FragmentGrammar>(
     pieces: &[Piece],
     bytes: usize,
 ) -> Result<Evaluated, Refusal>
-    requires right { IsCache (world (G.answer context.now.grammar.now) edition context.now.dialect.now)
+    requires right { IsCache (world (G.answer context.now.grammar.now) edition
+        context.now.dialect.now)
         context.now.depth edition context.now.memory.now }
     requires own { All IsOwnPiece pieces.now }
     requires met { AreMet context.now.memory.now.sources pieces.now }
@@ -747,7 +755,8 @@ pub(crate) fn evaluate_pieces<G: FragmentGrammar>(
     ensures links { IfOk result (λ now. AreLinks now (map tree_at pieces.now)) }
     ensures tokens { result ≡ Err Refusal.Tokens → list_any bursts (members_after
         (layers (G.answer context.now.grammar.now) edition context.now.dialect.now)
-        context.now.depth (definitions_of context.now.prelude.now) (map piece_at pieces.now)) ≡ true }
+        context.now.depth (definitions_of context.now.prelude.now) (map piece_at pieces.now))
+        ≡ true }
     ensures numbers { result ≡ Err Refusal.Numbers → NeedsMore context.now.memory.now
         (definition_trees context.now.prelude.now ++ definition_trees (map piece_at pieces.now)) }
 {

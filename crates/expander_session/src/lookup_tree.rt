@@ -1,11 +1,13 @@
 //! An index of memos by their trees and by what their look-ups found. It decides speed alone: a
 //! search of the whole list answers the same.
-ghost use Rattle.std.specs.Prelude.{◌≡◌, ◌+◌, ◌<◌, ◌^◌, ℕ, false, IfOk, IfSome, IsSome, List, None, OnOk, Some, is_some, length, option_map, slice_get, true};
+ghost use Rattle.std.specs.Prelude.{◌≡◌, ◌+◌, ◌<◌, ◌^◌, ℕ, false, IfOk, IfSome, IsSome, List, None};
+ghost use Rattle.std.specs.Prelude.{OnOk, Some, is_some, length, option_map, slice_get, true};
 ghost use Rattle.std.specs.Global.{Global as GhostGlobal};
 ghost use Rattle.std.specs.Rc.{rc_value};
 ghost use Rattle.expander_scope.specs.Outcomes.{find_of};
 ghost use Rattle.expander_scope.specs.ScopeTable.{AreRead, scope_in};
-ghost use Rattle.expander_session.specs.LookupTrees.{AddsMemo, Extends, IsIndexOf, KeepsFirsts, branch_of, first_of, id_of, lookups_at, turn};
+ghost use Rattle.expander_session.specs.LookupTrees.{AddsMemo, Extends, IsIndexOf, KeepsFirsts};
+ghost use Rattle.expander_session.specs.LookupTrees.{branch_of, first_of, id_of, lookups_at, turn};
 ghost use Rattle.expander_session.specs.Memos.{AreHashes, IsValidAt, has_match, tree_of};
 ghost use Rattle.tt.specs.Tops.{Top};
 

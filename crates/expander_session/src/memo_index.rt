@@ -1,5 +1,6 @@
 //! The search for a memo that is valid for a tree.
-ghost use Rattle.std.specs.Prelude.{◌≡◌, ◌+◌, ◌<◌, IfOk, IfSome, List, OnOk, Some, is_some, length, map, slice_get, true};
+ghost use Rattle.std.specs.Prelude.{◌≡◌, ◌+◌, ◌<◌, IfOk, IfSome, List, OnOk, Some, is_some, length};
+ghost use Rattle.std.specs.Prelude.{map, slice_get, true};
 ghost use Rattle.std.specs.Global.{Global as GhostGlobal};
 ghost use Rattle.expander_session.specs.LookupTrees.{IndexesMemos, IsIndexOf};
 ghost use Rattle.expander_scope.specs.ScopeTable.{AreRead, scope_in};

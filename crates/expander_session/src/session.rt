@@ -1,5 +1,7 @@
 //! A session: a text that is edited and expanded, with a cache of the last text that was read.
-ghost use Rattle.std.specs.Prelude.{◌≡◌, ◌≢◌, ◌+◌, ◌-◌, ◌<◌, ◌≤◌, ◌^◌, ◌↔◌, ◌++◌, All, Err, List, [], length, IfOk, IfErr, OnOk, OnErr, IsTrue, IsCharBoundary, IsSome, None, Some, map, option_map, slice_get, true};
+ghost use Rattle.std.specs.Prelude.{◌≡◌, ◌≢◌, ◌+◌, ◌-◌, ◌<◌, ◌≤◌, ◌^◌, ◌↔◌, ◌++◌, All, Err, List};
+ghost use Rattle.std.specs.Prelude.{[], length, IfOk, IfErr, OnOk, OnErr, IsTrue, IsCharBoundary};
+ghost use Rattle.std.specs.Prelude.{IsSome, None, Some, map, option_map, slice_get, true};
 ghost use Rattle.std.specs.List.{list_any};
 ghost use Rattle.rustc_lexer.specs.Edit.{edited};
 ghost use Rattle.bridge.specs.ReadText.{HasTooMany};
@@ -422,7 +424,8 @@ fn expand_pieces<G: FragmentGrammar>(
     ensures stands { IfOk result (λ r. All Stands context.now.prelude.now) }
     ensures tokens { result ≡ Err Refusal.Tokens → list_any bursts (members_after
         (layers (G.answer context.now.grammar.now) edition context.now.dialect.now)
-        context.now.depth (definitions_of context.now.prelude.now) (map piece_at pieces.now)) ≡ true }
+        context.now.depth (definitions_of context.now.prelude.now) (map piece_at pieces.now))
+        ≡ true }
     ensures numbers { result ≡ Err Refusal.Numbers → NeedsMore context.now.memory.now
         (definition_trees context.now.prelude.now ++ definition_trees (map piece_at pieces.now)) }
 {

@@ -20,7 +20,8 @@ use Rattle.expander_sources.specs.Homes.{Home, root_of}
 use Rattle.expander_sources.specs.Imports.{IsImport, import_piece}
 use Rattle.expander_sources.specs.Picks.{home_piece, named_piece, picked, rooted_pick}
 use Rattle.expander_sources.specs.SourceItems.{AreOrdered, IsSourceItem}
-use Rattle.expander_sources.specs.Sources.{end_behind, has_attribute, name_of, own_items}
+use Rattle.expander_sources.specs.Sources.{end_behind, name_of, own_items}
+use Rattle.expander_model.specs.Definitions.{has_attribute}
 use Rattle.expander_sources.specs.declared.import.Import.{Import}
 use Rattle.expander_sources.proofs.ImportPlaceLemmas.{end_with, home_first, home_is_definition, home_moved, home_stands, home_there, home_tree, inner_first, inner_is, inner_stands, inner_tree, some_same}
 use Rattle.expander_sources.proofs.PickLemmas.{definition_trees}

@@ -15,11 +15,11 @@ use Rattle.tt_data.specs.declared.leaf.Leaf.{Leaf}
 use Rattle.tt_data.specs.declared.leaf.Leaf.TheVariants as as_leaf
 use Rattle.tt_data.specs.declared.span.Span.{Span}
 use Rattle.bridge.specs.Text.{is_char, is_punct, same_kind}
-use Rattle.expander_model.specs.Definitions.{after_attributes, after_parenthesis, after_pub, after_word}
+use Rattle.expander_model.specs.Definitions.{after_attributes, after_parenthesis, after_pub, after_word, has_attribute}
 use Rattle.expander_model.specs.Pieces.{cut, cut_from, ends_piece, is_pound_bang, pieces, put_together, separated}
 use Rattle.expander_model.proofs.DefinitionPlaceLemmas.{after_attributes-with, after_pub-with, after_word-with, is_empty-with, test-with, then-with, unwrap_or-with}
 use Rattle.expander_model.proofs.SplittingLemmas.{put_together-cut}
-use Rattle.expander_sources.specs.Sources.{first_attribute, has_attribute, is_public, module_of}
+use Rattle.expander_sources.specs.Sources.{is_public, module_of}
 
 -- what stands behind the name of a module, and behind its `mod`
 abbrev braces_at : Ident → Forest → Option (Ident × Forest)
@@ -213,38 +213,6 @@ module _ (Q : Forest → Type 0) (passes : Passes Q) where
 pub cut_parts : (old piece new : Forest) → cut old ≡ piece ∷ cut new → old ≡ joined piece new
 cut_parts old piece new e =
     sym (put_together-cut old) ∙ ap put_together e ∙ ap (joined piece) (put_together-cut new)
-
--- ---- attributes
-
-abbrev attribute_if : Bool → Bool → Forest → Forest → Option (Forest × Forest)
-attribute_if pound brackets inner rest = ◌>>◌ {B = Forest × Forest} pound (◌>>◌ {B = Forest × Forest} brackets (Some (inner, rest)))
-
--- an attribute that does not begin with the word is passed
-pub other_attribute : (word : List ℕ) (f inner rest : Forest) → first_attribute f ≡ Some (inner, rest) → is_some (after_word word inner) ≡ false
-    → has_attribute word f ≡ has_attribute word rest
-other_attribute word empty inner rest e h = cc
-other_attribute word (group d a r) inner rest e h = cc
-other_attribute word (leaf (as_leaf.Ident i) r) inner rest e h = cc
-other_attribute word (leaf (as_leaf.Literal l) r) inner rest e h = cc
-other_attribute word (leaf (as_leaf.Punct p) empty) inner rest e h = go (is_char "#" p) e
-  where
-    go : (b : Bool) → ◌>>◌ {B = Forest × Forest} b None ≡ Some (inner, rest) → false ≡ has_attribute word rest
-    go true e = cc
-    go false e = cc
-other_attribute word (leaf (as_leaf.Punct p) (leaf l r)) inner rest e h = go (is_char "#" p) e
-  where
-    go : (b : Bool) → ◌>>◌ {B = Forest × Forest} b None ≡ Some (inner, rest) → false ≡ has_attribute word rest
-    go true e = cc
-    go false e = cc
-other_attribute word (leaf (as_leaf.Punct p) (group d a r)) inner rest e h = go (is_char "#" p) (same_kind d.kind Bracket) e
-  where
-    go : (b c : Bool) → attribute_if b c a r ≡ Some (inner, rest) → ((b && c) && (is_some (after_word word a) || has_attribute word r)) ≡ has_attribute word rest
-    go true true e =
-        let both : (a, r) ≡ (inner, rest) = ap (λ (o : Option (Forest × Forest)). unwrap_or o (a, r)) e in
-        ap (λ (x : Forest × Forest). is_some (after_word word x.0) || has_attribute word x.1) both
-        ∙ ap (λ (b : Bool). b || has_attribute word rest) h
-    go true false e = cc
-    go false c e = cc
 
 -- ---- each `;` that stands alone, at other spans
 

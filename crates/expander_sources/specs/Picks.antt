@@ -18,7 +18,8 @@ use Rattle.expander_model.specs.Definitions.{Definition, definition_of}
 use Rattle.expander_model.specs.EditionMarks.{edition_word}
 use Rattle.expander_sources.specs.Homes.{Home, root_of}
 use Rattle.expander_sources.specs.Rooting.{rooted}
-use Rattle.expander_sources.specs.Sources.{Item, has_attribute}
+use Rattle.expander_sources.specs.Sources.{Item}
+use Rattle.expander_model.specs.Definitions.{has_attribute}
 
 -- ---- new tokens
 

@@ -39,22 +39,6 @@ module_of piece = do
   ends_module d rest
   Some (name, inner)
 
--- the trees in the brackets of the outer attribute at the beginning, and what follows it
-abbrev pub first_attribute : Forest → Option (Forest × Forest)
-first_attribute f = do
-  (p, after_pound) ← first_punct f
-  is_char "#" p
-  (d, inner, rest) ← first_group after_pound
-  same_kind d.kind Bracket
-  Some (inner, rest)
-
--- one of the outer attributes of a piece begins with this word
-abbrev pub has_attribute : List ℕ → Forest → Bool
-has_attribute word (leaf (as_leaf.Punct p) (group d inner rest)) =
-    (is_char "#" p && same_kind d.kind Bracket)
-    && (is_some (after_word word inner) || has_attribute word rest)
-has_attribute word f = false
-
 -- a piece begins with `pub` behind its attributes
 abbrev pub is_public : Forest → Bool
 is_public piece = is_some (after_word (codes "pub") (after_attributes piece))

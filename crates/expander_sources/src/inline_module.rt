@@ -1,7 +1,7 @@
-//! Finds whether a piece is an inline module, and reads attributes and visibilities.
+//! Finds whether a piece is an inline module, or is public.
 ghost use Rattle.std.specs.Prelude.{◌≡◌, unwrap_or};
 ghost use Rattle.expander_model.specs.Definitions.{after_pub};
-ghost use Rattle.expander_sources.specs.Sources.{ends_module, first_attribute, has_attribute, is_public, module_of};
+ghost use Rattle.expander_sources.specs.Sources.{ends_module, is_public, module_of};
 
 use expander_model::definition::{after_attributes, after_pub, after_word};
 use tt::TtIter;
@@ -38,37 +38,6 @@ pub(crate) fn module_of<'a>(piece: &TtIter<'a>) -> Option<(Ident, TtIter<'a>)>
     } else {
         None
     }
-}
-
-// The trees in the brackets of an outer attribute, and what follows it, if the list begins with
-// one.
-fn first_attribute<'a>(trees: &TtIter<'a>) -> Option<(TtIter<'a>, TtIter<'a>)>
-    ensures { result ≡ first_attribute trees.now }
-{
-    let (pound, after_pound) = trees.first_punct()?;
-    if pound.char != '#' {
-        return None;
-    }
-    let (brackets, inner, rest) = after_pound.first_group()?;
-    if brackets.kind == DelimiterKind::Bracket {
-        Some((inner, rest))
-    } else {
-        None
-    }
-}
-
-/// Whether one of the outer attributes of a piece begins with this word.
-pub(crate) fn has_attribute(piece: &TtIter<'_>, word: &str) -> bool
-    ensures { result ≡ has_attribute word.now piece.now }
-{
-    let mut rest = piece.copied();
-    while let Some((inner, after)) = first_attribute(&rest) {
-        if after_word(&inner, word).is_some() {
-            return true;
-        }
-        rest = after;
-    }
-    false
 }
 
 /// Whether a piece begins with `pub` behind its attributes.

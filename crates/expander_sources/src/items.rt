@@ -1,5 +1,6 @@
 //! The definitions that pieces have, those of their inline modules too.
-ghost use Rattle.std.specs.Prelude.{◌≡◌, ◌+◌, ◌++◌, ◌∷◌, [], IfOk, IsOkUnless, OnOk, flat_map, is_some, true};
+ghost use Rattle.std.specs.Prelude.{◌≡◌, ◌+◌, ◌++◌, ◌∷◌, [], IfOk, IsOkUnless, OnOk, flat_map};
+ghost use Rattle.std.specs.Prelude.{is_some, true};
 ghost use Rattle.expander_model.specs.Definitions.{definition_of};
 ghost use Rattle.bridge.specs.RelativeSpans.{moved_to};
 ghost use Rattle.tt_data.specs.Forest.{map_spans};
@@ -8,7 +9,8 @@ ghost use Rattle.expander_model.specs.Pieces.{cut};
 ghost use Rattle.expander_reparse.specs.RelativePieces.{piece_at};
 ghost use Rattle.expander_sources.specs.Imports.{IsImport, import_piece};
 ghost use Rattle.expander_sources.specs.SourceItems.{AreOrdered, IsSourcePiece};
-ghost use Rattle.expander_sources.specs.Sources.{end_behind, inner_items, items_of, most_modules, of_text, own_items};
+ghost use Rattle.expander_sources.specs.Sources.{end_behind, inner_items, items_of, most_modules};
+ghost use Rattle.expander_sources.specs.Sources.{of_text, own_items};
 
 use crate::import::Import;
 use crate::inline_module::module_of;

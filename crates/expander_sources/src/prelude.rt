@@ -1,5 +1,6 @@
 //! Preludes: definitions of other texts, which a text is expanded after.
-ghost use Rattle.std.specs.Prelude.{◌≡◌, ◌<◌, ◌++◌, ◌∷◌, All, IfErr, IfOk, IfSome, IsOkUnless, OnErr, OnOk, Some, [], filter_map, length, option_map, take};
+ghost use Rattle.std.specs.Prelude.{◌≡◌, ◌<◌, ◌++◌, ◌∷◌, All, IfErr, IfOk, IfSome, IsOkUnless};
+ghost use Rattle.std.specs.Prelude.{OnErr, OnOk, Some, [], filter_map, length, option_map, take};
 ghost use Rattle.tt_data.specs.fault.TtFault.TheVariants as fault;
 ghost use Rattle.expander_model.specs.Definitions.{Definition, definition_of};
 ghost use Rattle.expander_sources.specs.Builds.{IsBuildFault};
@@ -9,12 +10,11 @@ ghost use Rattle.expander_sources.specs.Sources.{item_at};
 
 use crate::home::Home;
 use crate::import::Import;
-use crate::inline_module::has_attribute;
 use crate::items::SourceItem;
 use crate::rooting::home_tree;
 use crate::source::Source;
 use expander_model::call::key_behind;
-use expander_model::definition::definition_of;
+use expander_model::definition::{definition_of, has_attribute};
 use expander_model::hashed_tree::HashedTree;
 use std::alloc::{AllocError, Global};
 use std::marker::Model;

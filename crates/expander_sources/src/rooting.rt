@@ -10,7 +10,9 @@ ghost use Rattle.tt_data.specs.fault.TtFault.TheVariants as fault;
 ghost use Rattle.expander_model.specs.HashedTrees.{own_top};
 ghost use Rattle.expander_model.specs.EditionMarks.{edition_word};
 ghost use Rattle.expander_sources.specs.Builds.{Adds, IsBuildFault, PutsRooted};
-ghost use Rattle.expander_sources.specs.Picks.{brackets_at, first_span, groups_at, head_at, home_piece, keyword_at, marked_with, own_arguments, punct_at, word_at};
+ghost use Rattle.expander_sources.specs.Picks.{brackets_at, first_span, groups_at, head_at};
+ghost use Rattle.expander_sources.specs.Picks.{home_piece, keyword_at, marked_with, own_arguments};
+ghost use Rattle.expander_sources.specs.Picks.{punct_at, word_at};
 ghost use Rattle.expander_sources.specs.Rooting.{is_crate, root_at, rooted};
 
 use crate::home::Home;

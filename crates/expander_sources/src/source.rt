@@ -1,5 +1,6 @@
 //! Sources: texts that were read for their definitions.
-ghost use Rattle.std.specs.Prelude.{◌≡◌, ◌<◌, ◌≤◌, ◌^◌, All, Err, IfOk, IsOkUnless, Some, [], chars, flat_map, length, map};
+ghost use Rattle.std.specs.Prelude.{◌≡◌, ◌<◌, ◌≤◌, ◌^◌, All, Err, IfOk, IsOkUnless, Some, []};
+ghost use Rattle.std.specs.Prelude.{chars, flat_map, length, map};
 ghost use Rattle.bridge.specs.ReadText.{HasTooMany};
 ghost use Rattle.bridge.specs.TokenSteps.{text_steps};
 ghost use Rattle.rustc_lexer.specs.Lexing.{tokens_of};
@@ -12,9 +13,10 @@ ghost use Rattle.expander_sources.specs.SourceReads.{IsSourceOf};
 ghost use Rattle.expander_sources.specs.Sources.{items_of, most_modules, of_text};
 
 use crate::home::Home;
-use crate::inline_module::{has_attribute, is_public};
+use crate::inline_module::is_public;
 use crate::items::{SourceItem, push_own};
 use bridge::ReadFault;
+use expander_model::definition::has_attribute;
 use expander_reparse::parse::{Parsed, read_pieces};
 use expander_reparse::piece::Piece;
 use expander_reparse::segment::Segments;
@@ -126,7 +128,9 @@ fn source_of_pieces(
 
 impl Source {
     ghost use Rattle.std.specs.Prelude.{Some, option_map};
-    ghost use Rattle.expander_sources.specs.Sources.{has_attribute, is_public, item_at, name_of, name_range_of, range_of};
+    ghost use Rattle.expander_sources.specs.Sources.{is_public, item_at, name_of};
+    ghost use Rattle.expander_model.specs.Definitions.{has_attribute};
+    ghost use Rattle.expander_sources.specs.Sources.{name_range_of, range_of};
 
     /// The source that a text is. Its spans have this number, from 1 on: 0 is that of the text that
     /// is expanded. Without a home its definitions are of the crate of that text.

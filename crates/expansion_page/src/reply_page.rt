@@ -1,7 +1,8 @@
 //! The page of a reply to a text.
 ghost use Rattle.std.specs.Prelude.{◌≡◌, ◌<◌, ◌^◌, ℕ, List, [], IfOk, length, map, string_bytes};
 ghost use Rattle.expander_session.specs.declared.session.Reply.TheVariants.{Read, Unread};
-ghost use Rattle.expansion_page.specs.Pages.{IsFramed, IsNamedReplyPage, IsReplyPage, ShowsReply, shown_origins};
+ghost use Rattle.expansion_page.specs.Pages.{IsFramed, IsNamedReplyPage, IsReplyPage, ShowsReply};
+ghost use Rattle.expansion_page.specs.Pages.{shown_origins};
 ghost use Rattle.html_code.specs.PageParts.{IsShort};
 
 use crate::frame::frame;

@@ -4,7 +4,8 @@ use Rattle.std.specs.Str.{bytes_eq}
 use Rattle.tt_data.specs.Forest.{Forest}
 use Rattle.expander_sources.specs.Homes.{Home}
 use Rattle.expander_sources.specs.Picks.{picked, rooted_picks}
-use Rattle.expander_sources.specs.Sources.{Item, Source, has_attribute}
+use Rattle.expander_sources.specs.Sources.{Item, Source}
+use Rattle.expander_model.specs.Definitions.{has_attribute}
 
 -- a definition is exported by its crate, and the compiler does not have it built in
 abbrev pub is_exported : Item → Bool

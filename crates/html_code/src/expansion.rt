@@ -1,6 +1,11 @@
 //! An expansion on a page: its tokens with the numbers of their origins, laid out as code.
-ghost use Rattle.std.specs.Prelude.{◌≡◌, ◌+◌, ◌-◌, ◌*◌, ◌++◌, ◌<◌, ◌≤◌, ◌^◌, List, codes, drop, decimal, length, map, string_bytes, IfOk, OnOk, option_copied, slice_get};
-ghost use Rattle.html_code.specs.ExpansionParts.{AddsWord, attributes_at, expansion_parts, fold_end, gap_tag, is_behind, is_in_summary, is_white, line_end, number_here, origin_here, printed_tokens_in};
+ghost use Rattle.std.specs.Prelude.{◌≡◌, ◌+◌, ◌-◌, ◌*◌, ◌++◌, ◌<◌, ◌≤◌, ◌^◌, List, codes, drop};
+ghost use Rattle.std.specs.Prelude.{decimal, length, map, string_bytes, IfOk, OnOk, option_copied};
+ghost use Rattle.std.specs.Prelude.{slice_get};
+ghost use Rattle.html_code.specs.ExpansionParts.{AddsWord, attributes_at, expansion_parts};
+ghost use Rattle.html_code.specs.ExpansionParts.{fold_end, gap_tag, is_behind, is_in_summary};
+ghost use Rattle.html_code.specs.ExpansionParts.{is_white, line_end, number_here, origin_here};
+ghost use Rattle.html_code.specs.ExpansionParts.{printed_tokens_in};
 ghost use Rattle.html_code.specs.Origins.{title_of};
 ghost use Rattle.html_code.specs.Parts.{Adds, html_of, html_of_part, isolated};
 ghost use Rattle.html_code.specs.Tokens.{ends_word, token_part};

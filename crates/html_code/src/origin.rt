@@ -1,6 +1,7 @@
 //! Where printed tokens come from.
 ghost use Rattle.std.specs.Prelude.{◌≡◌, ◌++◌, codes, decimal, map, string_bytes, IfOk};
-ghost use Rattle.html_code.specs.Origins.{AreOriginNumbers, IsOriginNumber, bytes_told, name_told, title_of};
+ghost use Rattle.html_code.specs.Origins.{AreOriginNumbers, IsOriginNumber, bytes_told, name_told};
+ghost use Rattle.html_code.specs.Origins.{title_of};
 ghost use Rattle.html_code.specs.Parts.{Adds};
 
 use crate::escape::push_escaped;

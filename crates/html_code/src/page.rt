@@ -1,6 +1,7 @@
 //! A page: a text, its expansion, and its faults.
 ghost use Rattle.std.specs.Prelude.{◌≡◌, ◌++◌, ◌<◌, ◌^◌, IfOk, OnOk, length, string_bytes};
-ghost use Rattle.html_code.specs.PageParts.{AddsLinks, AddsPrinted, IsPage, IsShort, counts_of, fold_of, head_parts};
+ghost use Rattle.html_code.specs.PageParts.{AddsLinks, AddsPrinted, IsPage, IsShort, counts_of};
+ghost use Rattle.html_code.specs.PageParts.{fold_of, head_parts};
 ghost use Rattle.html_code.specs.Parts.{Adds, html_of};
 
 use crate::escape::push_escaped;

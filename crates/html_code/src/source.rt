@@ -1,8 +1,11 @@
 //! The text on a page: its tokens and comments, and its faults marked.
-ghost use Rattle.std.specs.Prelude.{◌≡◌, ◌+◌, ◌++◌, ◌<◌, ◌^◌, ℕ, List, Option, Some, IsCharBoundary, length, string_bytes, IfOk, OnOk};
+ghost use Rattle.std.specs.Prelude.{◌≡◌, ◌+◌, ◌++◌, ◌<◌, ◌^◌, ℕ, List, Option, Some};
+ghost use Rattle.std.specs.Prelude.{IsCharBoundary, length, string_bytes, IfOk, OnOk};
 ghost use Rattle.html_code.specs.Parts.{Adds, html_of, html_of_part, isolated};
 ghost use Rattle.html_code.specs.Places.{point_of};
-ghost use Rattle.html_code.specs.SourceParts.{AddsToken, attributes_of, blank_parts, class_of, fault_attributes, faults_from, number_attributes, source_parts, start_of, token_starts};
+ghost use Rattle.html_code.specs.SourceParts.{AddsToken, attributes_of, blank_parts, class_of};
+ghost use Rattle.html_code.specs.SourceParts.{fault_attributes, faults_from, number_attributes};
+ghost use Rattle.html_code.specs.SourceParts.{source_parts, start_of, token_starts};
 ghost use Rattle.html_code.specs.Tokens.{ends_word, token_part};
 
 use crate::escape::push_escaped;

@@ -2,7 +2,9 @@
 //! element of its own.
 ghost use Rattle.std.specs.Prelude.{◌≡◌, ◌++◌, [], None, OnOk, IfOk, string_bytes};
 ghost use Rattle.html_code.specs.Parts.{Adds, content_of, html_of_part, isolated};
-ghost use Rattle.html_code.specs.Tokens.{blank_part, comment_part, ends_word, is_plain, is_plain_byte, is_sign, is_sign_byte, is_word, is_word_byte, token_part};
+ghost use Rattle.html_code.specs.Tokens.{blank_part, comment_part, ends_word, is_plain};
+ghost use Rattle.html_code.specs.Tokens.{is_plain_byte, is_sign, is_sign_byte, is_word};
+ghost use Rattle.html_code.specs.Tokens.{is_word_byte, token_part};
 
 use crate::escape::push_escaped;
 use std::alloc::AllocError;

@@ -1,5 +1,6 @@
 //! Expands a call of a macro.
-ghost use Rattle.std.specs.Prelude.{◌≡◌, None, Some, Err, true, IfErr, IfOk, IfSome, IsOkUnless, MatchOption, option_map};
+ghost use Rattle.std.specs.Prelude.{◌≡◌, None, Some, Err, true, IfErr, IfOk, IfSome, IsOkUnless};
+ghost use Rattle.std.specs.Prelude.{MatchOption, option_map};
 ghost use Rattle.tt.specs.Views.{forest};
 ghost use Rattle.mbe.specs.Answers.{within, no_brackets};
 ghost use Rattle.mbe.specs.Fit as spec;
@@ -42,11 +43,15 @@ impl DeclarativeMacro {
     ) -> Result<Option<(u32, TopSubtree)>, TtFault>
         requires whole { (rules_of self.now).err ≡ None }
         requires marker { M.IsAlwaysCallable marker.now }
-        ensures fit { (mark : Span → Span) → IsMarkedBy (M.post marker.now) mark → IfOk result (λ o. o
-            ≡ option_map (λ r. (r.0, within top r.1)) (spec.fit is_name (G.answer grammar.now) mark (rules_of self.now).list call_style (forest argument.entry))) }
+        ensures fit { (mark : Span → Span) → IsMarkedBy (M.post marker.now) mark →
+            IfOk result (λ o. o
+            ≡ option_map (λ r. (r.0, within top r.1)) (spec.fit is_name (G.answer grammar.now) mark
+            (rules_of self.now).list call_style (forest argument.entry))) }
         ensures faults { IfErr result IsWantOfRoom }
-        ensures tokens { (mark : Span → Span) → IsMarkedBy (M.post marker.now) mark → result ≡ Err Tokens →
-            bursts is_name (G.answer grammar.now) mark (rules_of self.now).list call_style (forest argument.entry) ≡ true }
+        ensures tokens { (mark : Span → Span) → IsMarkedBy (M.post marker.now) mark → result
+            ≡ Err Tokens →
+            bursts is_name (G.answer grammar.now) mark (rules_of self.now).list call_style
+            (forest argument.entry) ≡ true }
     {
         match first_fit(
             alloc,
@@ -90,13 +95,20 @@ impl DeclarativeMacro {
     ) -> Result<ExpandResult<(TopSubtree, MatchedArmIndex)>, TtFault>
         requires whole { (rules_of self.now).err ≡ None }
         requires marker { M.IsAlwaysCallable marker.now }
-        ensures answer { (mark : Span → Span) → IsMarkedBy (M.post marker.now) mark → IfOk result (λ r.
-            MatchOption (spec.fit is_name (G.answer grammar.now) mark (rules_of self.now).list call_style tt.now.inner)
+        ensures answer { (mark : Span → Span) → IsMarkedBy (M.post marker.now) mark →
+            IfOk result (λ r.
+            MatchOption (spec.fit is_name (G.answer grammar.now) mark (rules_of self.now).list
+            call_style tt.now.inner)
             (IsUnfit call_style (rules_of self.now).list call_site r.value.1 r.value.0 r.err)
-            (λ f. r ≡ record { value = (within (no_brackets call_site) f.1, Some f.0); err = None })) }
+            (λ f. r ≡ record {
+              value = (within (no_brackets call_site) f.1, Some f.0);
+              err = None;
+            })) }
         ensures faults { IfErr result IsWantOfRoom }
-        ensures tokens { (mark : Span → Span) → IsMarkedBy (M.post marker.now) mark → result ≡ Err Tokens →
-            bursts is_name (G.answer grammar.now) mark (rules_of self.now).list call_style tt.now.inner ≡ true }
+        ensures tokens { (mark : Span → Span) → IsMarkedBy (M.post marker.now) mark → result
+            ≡ Err Tokens →
+            bursts is_name (G.answer grammar.now) mark (rules_of self.now).list call_style
+            tt.now.inner ≡ true }
     {
         let top = Delimiter::invisible_spanned(call_site);
         match self.fit(alloc, grammar, tt.token_trees(), marker, call_style, top)? {

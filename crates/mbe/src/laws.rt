@@ -1,6 +1,7 @@
 //! Laws for the proofs of crates above. Calling a law does nothing: its contract is the
 //! statement.
-ghost use Rattle.std.specs.Prelude.{◌≡◌, ◌↔◌, ◌⊎◌, ℕ, Bool, true, false, List, Option, Some, None, option_map, map};
+ghost use Rattle.std.specs.Prelude.{◌≡◌, ◌↔◌, ◌⊎◌, ℕ, Bool, true, false, List, Option, Some, None};
+ghost use Rattle.std.specs.Prelude.{option_map, map};
 ghost use Rattle.tt_data.specs.Forest.{Forest, map_spans};
 ghost use Rattle.tt_data.specs.declared.edition.Edition.{Edition};
 ghost use Rattle.tt_data.specs.declared.span.Span.{Span};
@@ -14,7 +15,8 @@ ghost use Rattle.mbe.specs.Fit.{fit, fit_with};
 ghost use Rattle.mbe.specs.NoReading.{HasClashing, HasTwo, UsesUp};
 ghost use Rattle.mbe_matcher.specs.Grammar.{Grammar};
 ghost use Rattle.mbe_matcher.specs.Paths.{IsPath, has_clash};
-ghost use Rattle.mbe_matcher.specs.Readings.{Move, State, start, next, has_used_up, takings, the_reading};
+ghost use Rattle.mbe_matcher.specs.Readings.{Move, State, start, next, has_used_up, takings};
+ghost use Rattle.mbe_matcher.specs.Readings.{the_reading};
 
 use mbe_rules::MacroCallStyle;
 use tt_data::{Edition, Span, SyntaxContext};
@@ -22,38 +24,56 @@ use tt_data::{Edition, Span, SyntaxContext};
 /// Under a span map that commutes with the marker, the same rule fits, and its result is mapped.
 /// So it is of definitions, if the map keeps each span's edition.
 pub fn fit_at_other_places()
-    ensures rules { (f : Span → Span) (is_identifier : List ℕ → Bool) (grammar : Grammar) (mark : Span → Span) →
-        ((s : Span) → f (mark s) ≡ mark (f s)) → (list : List Rule) (style : MacroCallStyle) (argument : Forest) →
+    ensures rules { (f : Span → Span) (is_identifier : List ℕ → Bool) (grammar : Grammar)
+        (mark : Span → Span) →
+        ((s : Span) → f (mark s) ≡ mark (f s)) → (list : List Rule) (style : MacroCallStyle)
+        (argument : Forest) →
         fit is_identifier grammar mark (map (rule_with f) list) style (map_spans f argument)
         ≡ fit_with f (fit is_identifier grammar mark list style argument) }
-    ensures macro_rules { (f : Span → Span) (is_identifier : List ℕ → Bool) (grammar : Grammar) (mark : Span → Span) →
-        ((s : Span) → f (mark s) ≡ mark (f s)) → (edition : SyntaxContext → Edition) → ((s : Span) → edition (f s).ctx ≡ edition s.ctx) →
+    ensures macro_rules { (f : Span → Span) (is_identifier : List ℕ → Bool) (grammar : Grammar)
+        (mark : Span → Span) →
+        ((s : Span) → f (mark s) ≡ mark (f s)) → (edition : SyntaxContext → Edition) →
+        ((s : Span) → edition (f s).ctx ≡ edition s.ctx) →
         (body : Forest) (style : MacroCallStyle) (argument : Forest) →
-        fit is_identifier grammar mark (macro_rules_of edition (map_spans f body)).list style (map_spans f argument)
-        ≡ fit_with f (fit is_identifier grammar mark (macro_rules_of edition body).list style argument) }
-    ensures macros { (f : Span → Span) (is_identifier : List ℕ → Bool) (grammar : Grammar) (mark : Span → Span) →
-        ((s : Span) → f (mark s) ≡ mark (f s)) → (edition : SyntaxContext → Edition) → ((s : Span) → edition (f s).ctx ≡ edition s.ctx) →
+        fit is_identifier grammar mark (macro_rules_of edition (map_spans f body)).list style
+        (map_spans f argument)
+        ≡ fit_with f (fit is_identifier grammar mark (macro_rules_of edition body).list style
+        argument) }
+    ensures macros { (f : Span → Span) (is_identifier : List ℕ → Bool) (grammar : Grammar)
+        (mark : Span → Span) →
+        ((s : Span) → f (mark s) ≡ mark (f s)) → (edition : SyntaxContext → Edition) →
+        ((s : Span) → edition (f s).ctx ≡ edition s.ctx) →
         (arguments : Option Forest) (body : Forest) (style : MacroCallStyle) (argument : Forest) →
-        fit is_identifier grammar mark (macro_of edition (option_map (map_spans f) arguments) (map_spans f body)).list style (map_spans f argument)
-        ≡ fit_with f (fit is_identifier grammar mark (macro_of edition arguments body).list style argument) }
+        fit is_identifier grammar mark (macro_of edition (option_map (map_spans f) arguments)
+        (map_spans f body)).list style (map_spans f argument)
+        ≡ fit_with f (fit is_identifier grammar mark (macro_of edition arguments body).list style
+        argument) }
 {}
 
 /// Nor does it depend on spans whether a rule that is tried puts out more tokens than a tree may
 /// have.
 pub fn bursts_at_other_places()
-    ensures rules { (f : Span → Span) (is_identifier : List ℕ → Bool) (grammar : Grammar) (mark : Span → Span) →
-        ((s : Span) → f (mark s) ≡ mark (f s)) → (list : List Rule) (style : MacroCallStyle) (argument : Forest) →
+    ensures rules { (f : Span → Span) (is_identifier : List ℕ → Bool) (grammar : Grammar)
+        (mark : Span → Span) →
+        ((s : Span) → f (mark s) ≡ mark (f s)) → (list : List Rule) (style : MacroCallStyle)
+        (argument : Forest) →
         bursts is_identifier grammar mark (map (rule_with f) list) style (map_spans f argument)
         ≡ bursts is_identifier grammar mark list style argument }
-    ensures macro_rules { (f : Span → Span) (is_identifier : List ℕ → Bool) (grammar : Grammar) (mark : Span → Span) →
-        ((s : Span) → f (mark s) ≡ mark (f s)) → (edition : SyntaxContext → Edition) → ((s : Span) → edition (f s).ctx ≡ edition s.ctx) →
+    ensures macro_rules { (f : Span → Span) (is_identifier : List ℕ → Bool) (grammar : Grammar)
+        (mark : Span → Span) →
+        ((s : Span) → f (mark s) ≡ mark (f s)) → (edition : SyntaxContext → Edition) →
+        ((s : Span) → edition (f s).ctx ≡ edition s.ctx) →
         (body : Forest) (style : MacroCallStyle) (argument : Forest) →
-        bursts is_identifier grammar mark (macro_rules_of edition (map_spans f body)).list style (map_spans f argument)
+        bursts is_identifier grammar mark (macro_rules_of edition (map_spans f body)).list style
+        (map_spans f argument)
         ≡ bursts is_identifier grammar mark (macro_rules_of edition body).list style argument }
-    ensures macros { (f : Span → Span) (is_identifier : List ℕ → Bool) (grammar : Grammar) (mark : Span → Span) →
-        ((s : Span) → f (mark s) ≡ mark (f s)) → (edition : SyntaxContext → Edition) → ((s : Span) → edition (f s).ctx ≡ edition s.ctx) →
+    ensures macros { (f : Span → Span) (is_identifier : List ℕ → Bool) (grammar : Grammar)
+        (mark : Span → Span) →
+        ((s : Span) → f (mark s) ≡ mark (f s)) → (edition : SyntaxContext → Edition) →
+        ((s : Span) → edition (f s).ctx ≡ edition s.ctx) →
         (arguments : Option Forest) (body : Forest) (style : MacroCallStyle) (argument : Forest) →
-        bursts is_identifier grammar mark (macro_of edition (option_map (map_spans f) arguments) (map_spans f body)).list style (map_spans f argument)
+        bursts is_identifier grammar mark (macro_of edition (option_map (map_spans f) arguments)
+        (map_spans f body)).list style (map_spans f argument)
         ≡ bursts is_identifier grammar mark (macro_of edition arguments body).list style argument }
 {}
 
@@ -64,8 +84,10 @@ pub fn only_reading()
     ensures { (grammar : Grammar) (pattern : Items) (argument : Forest) (moves : List Move) →
         has_empty_round pattern ≡ false → the_reading grammar pattern argument ≡ Some moves →
         (has_clash (takings grammar pattern argument) ≡ false)
-        × ((last : State) × IsPath (next grammar) (start pattern argument) moves last × (has_used_up last ≡ true))
-        × ((others : List Move) (last : State) → IsPath (next grammar) (start pattern argument) others last → has_used_up last ≡ true → others ≡ moves) }
+        × ((last : State) × IsPath (next grammar) (start pattern argument) moves last
+        × (has_used_up last ≡ true))
+        × ((others : List Move) (last : State) → IsPath (next grammar) (start pattern argument)
+        others last → has_used_up last ≡ true → others ≡ moves) }
 {}
 
 /// A matcher has no reading of an argument for one of three reasons, and only so: no list of valid
@@ -73,10 +95,13 @@ pub fn only_reading()
 /// They clash where both consume something at one position, and one of them a fragment. Its
 /// reading is the only list of moves that uses up the argument, where nothing clashes: `one`.
 pub fn when_there_is_no_reading()
-    ensures none { (grammar : Grammar) (pattern : Items) (argument : Forest) → has_empty_round pattern ≡ false →
+    ensures none { (grammar : Grammar) (pattern : Items) (argument : Forest) →
+        has_empty_round pattern ≡ false →
         (the_reading grammar pattern argument ≡ None)
-        ↔ (((moves : List Move) → UsesUp grammar pattern argument moves → ⊥) ⊎ (HasTwo grammar pattern argument ⊎ HasClashing grammar pattern argument)) }
-    ensures one { (grammar : Grammar) (pattern : Items) (argument : Forest) (moves : List Move) → has_empty_round pattern ≡ false →
+        ↔ (((moves : List Move) → UsesUp grammar pattern argument moves → ⊥) ⊎
+        (HasTwo grammar pattern argument ⊎ HasClashing grammar pattern argument)) }
+    ensures one { (grammar : Grammar) (pattern : Items) (argument : Forest) (moves : List Move) →
+        has_empty_round pattern ≡ false →
         (the_reading grammar pattern argument ≡ Some moves)
         ↔ (UsesUp grammar pattern argument moves
         × ((others : List Move) → UsesUp grammar pattern argument others → others ≡ moves)

@@ -55,7 +55,8 @@ impl DeclarativeMacro {
         ctx_edition: F,
     ) -> Result<DeclarativeMacro, TtFault>
         requires { F.IsAlwaysCallable ctx_edition }
-        ensures ok { (edition : SyntaxContext → Edition) → IsAnsweredBy (F.post ctx_edition) edition →
+        ensures ok { (edition : SyntaxContext → Edition) → IsAnsweredBy (F.post ctx_edition)
+            edition →
             IfOk result (λ m. rules_of m ≡ macro_rules_of edition tt.now.inner) }
         ensures memory { IsOkUnless result fault.Memory }
     {
@@ -95,8 +96,10 @@ impl DeclarativeMacro {
         ctx_edition: F,
     ) -> Result<DeclarativeMacro, TtFault>
         requires { F.IsAlwaysCallable ctx_edition }
-        ensures ok { (edition : SyntaxContext → Edition) → IsAnsweredBy (F.post ctx_edition) edition →
-            IfOk result (λ m. rules_of m ≡ macro_of edition (option_map (λ t. t.now.inner) args.entry) body.now.inner) }
+        ensures ok { (edition : SyntaxContext → Edition) → IsAnsweredBy (F.post ctx_edition)
+            edition →
+            IfOk result (λ m. rules_of m
+            ≡ macro_of edition (option_map (λ t. t.now.inner) args.entry) body.now.inner) }
         ensures memory { IsOkUnless result fault.Memory }
     {
         let written = ctx_edition(SyntaxContext::Written);
@@ -215,7 +218,8 @@ fn styles(list: &[Rule]) -> MacroCallStyles
 
 // Whether two faults are the same.
 fn same_fault(first: Option<&ParseError>, second: Option<&ParseError>) -> bool
-    ensures { result ≡ option_eq ⟦<ParseError as PartialEq>⟧.eq (option_map (λ e. e.now) first.entry) (option_map (λ e. e.now) second.entry) }
+    ensures { result ≡ option_eq ⟦<ParseError as PartialEq>⟧.eq
+        (option_map (λ e. e.now) first.entry) (option_map (λ e. e.now) second.entry) }
 {
     match (first, second) {
         (Some(first), Some(second)) => first == second,

@@ -3,7 +3,8 @@
 //!
 //! Proved of these answers: they are refused only if memory runs out, the rule has the style of
 //! the call, and the tree has invisible delimiters. A call that a rule fits does not come here.
-ghost use Rattle.std.specs.Prelude.{◌≡◌, ◌<◌, ◌^◌, ℕ, Bool, true, length, map, option_map, Some, IfOk, IfSome, IsOkUnless};
+ghost use Rattle.std.specs.Prelude.{◌≡◌, ◌<◌, ◌^◌, ℕ, Bool, true, length, map, option_map, Some};
+ghost use Rattle.std.specs.Prelude.{IfOk, IfSome, IsOkUnless};
 ghost use Rattle.symbols.specs.declared.fault.TtFault.TheVariants as fault;
 ghost use Rattle.tt_data.specs.Forest.{empty};
 ghost use Rattle.mbe_rules.specs.Ops.{rule_of};
@@ -37,7 +38,8 @@ struct Candidate<'a> {
 
 // The nearer of two rules, or the first if they are equally near.
 fn nearer<'a>(first: Option<Candidate<'a>>, second: Candidate<'a>) -> Candidate<'a>
-    ensures { (p : ℕ → Bool) → IfSome first.entry (λ c. p c.index ≡ true) → p second.entry.index ≡ true → p result.index ≡ true }
+    ensures { (p : ℕ → Bool) → IfSome first.entry (λ c. p c.index ≡ true) → p second.entry.index
+        ≡ true → p result.index ≡ true }
 {
     match first {
         Some(first) => {
@@ -68,7 +70,8 @@ fn nearest<'a, G: FragmentGrammar>(
     call: Call<'a>,
 ) -> Result<Option<Candidate<'a>>, TtFault>
     requires { length rules.now < 2 ^ 32 }
-    ensures { IfOk result (λ o. IsOfStyle style (map rule_of rules.now) (option_map (λ c. c.index) o)) }
+    ensures { IfOk result (λ o. IsOfStyle style (map rule_of rules.now) (option_map (λ c. c.index)
+        o)) }
 {
     let mut best = None;
     for (index, rule) in rules.iter().enumerate() {
@@ -147,7 +150,8 @@ pub(crate) fn failure<G: FragmentGrammar, M: Fn(Span) -> Span>(
 ) -> Result<Answer, TtFault>
     requires few { length rules.now < 2 ^ 32 }
     requires marker { M.IsAlwaysCallable marker.now }
-    ensures unfit { IfOk result (λ r. IsUnfit style (map rule_of rules.now) call_site r.1 r.0 (Some r.2)) }
+    ensures unfit { IfOk result (λ r. IsUnfit style (map rule_of rules.now) call_site r.1 r.0
+        (Some r.2)) }
     ensures memory { IsOkUnless result fault.Memory }
 {
     let arena = Bump::new(alloc);

@@ -72,7 +72,8 @@ pub(crate) fn name_key(argument: TokenTreesView<'_>) -> Option<u32>
 #[inline(always)]
 #[tactic(auto, using(crate::proofs::KeyLemmas::no_name_here, crate::proofs::KeyLemmas::another_name))]
 fn is_other(key: Option<u32>, name: Option<u32>) -> bool
-    ensures { (pattern : Items) (argument : Forest) → key ≡ first_key pattern → name ≡ name_key argument →
+    ensures { (pattern : Items) (argument : Forest) → key ≡ first_key pattern → name
+        ≡ name_key argument →
         result ≡ true → is_blocked pattern (place argument []) ≡ true }
 {
     let Some(key) = key else {

@@ -1,5 +1,6 @@
 //! Selects the first rule that fits a call, and transcribes it.
-ghost use Rattle.std.specs.Prelude.{◌≡◌, ◌<◌, true, false, length, map, option_map, Err, IfErr, IfOk, IfSome};
+ghost use Rattle.std.specs.Prelude.{◌≡◌, ◌<◌, true, false, length, map, option_map, Err, IfErr};
+ghost use Rattle.std.specs.Prelude.{IfOk, IfSome};
 ghost use Rattle.std.specs.List.{list_any};
 ghost use Rattle.tt.specs.Views.{forest};
 ghost use Rattle.mbe_rules.specs.Items.{has_empty_round};
@@ -41,10 +42,13 @@ fn filled<M: Fn(Span) -> Span>(
 ) -> Result<Option<TopSubtree>, TtFault>
     requires { M.IsAlwaysCallable marker.now }
     ensures tree { (mark : Span → Span) → IsMarkedBy (M.post marker.now) mark → IfOk result (λ o. o
-        ≡ option_map (within top) (filled is_name most_rounds mark (map_of bindings.now) (items_of template.now))) }
+        ≡ option_map (within top) (filled is_name most_rounds mark (map_of bindings.now)
+        (items_of template.now))) }
     ensures faults { IfErr result IsWantOfRoom }
-    ensures tokens { (mark : Span → Span) → IsMarkedBy (M.post marker.now) mark → result ≡ Err Tokens →
-        most_tokens < output is_name most_rounds mark (map_of bindings.now) (items_of template.now) }
+    ensures tokens { (mark : Span → Span) → IsMarkedBy (M.post marker.now) mark → result
+        ≡ Err Tokens →
+        most_tokens < output is_name most_rounds mark (map_of bindings.now)
+        (items_of template.now) }
 {
     let mut out = TopSubtreeBuilder::with_room(alloc, top, USUAL_TOKENS)?;
     if !fill(&mut out, template, bindings, marker)? {
@@ -59,31 +63,6 @@ fn filled<M: Fn(Span) -> Span>(
 
 // How many bytes an arena has room for at first.
 const USUAL_ROOM: usize = 960;
-
-// What one rule gives for an argument that is read by its matcher. `None` if it does not fit.
-fn read_fit<G: FragmentGrammar, M: Fn(Span) -> Span>(
-    alloc: Global,
-    grammar: &G,
-    rule: &Rule,
-    argument: TokenTreesView<'_>,
-    marker: &M,
-    top: Delimiter,
-) -> Result<Option<TopSubtree>, TtFault>
-    requires pattern { has_empty_round (items_of rule.now.pattern.items) ≡ false }
-    requires marker { M.IsAlwaysCallable marker.now }
-    ensures tree { (mark : Span → Span) → IsMarkedBy (M.post marker.now) mark → IfOk result (λ o. o
-        ≡ option_map (within top) (spec.rule_fit is_name (G.answer grammar.now) mark (rule_of rule.now) (forest argument.entry))) }
-    ensures faults { IfErr result IsWantOfRoom }
-    ensures tokens { (mark : Span → Span) → IsMarkedBy (M.post marker.now) mark → result ≡ Err Tokens →
-        template_bursts is_name (G.answer grammar.now) mark (rule_of rule.now) (the_reading (G.answer grammar.now) (items_of rule.now.pattern.items) (forest argument.entry)) ≡ true }
-{
-    let arena = Bump::try_with_capacity(alloc, USUAL_ROOM)?;
-    let Some(last) = match_pattern(alloc, &arena, grammar, &rule.pattern, argument)? else {
-        return Ok(None);
-    };
-    let bindings = bindings_of(alloc, last)?;
-    filled(alloc, &rule.template, &bindings, marker, top)
-}
 
 /// What one rule gives for an argument, inside the delimiters `top`, whatever its style. `None` if
 /// it does not fit: its matcher does not match, or its transcriber cannot be filled.
@@ -114,7 +93,12 @@ pub fn rule_result<G: FragmentGrammar, M: Fn(Span) -> Span>(
         (rule_of rule.now) (the_reading (G.answer grammar.now) (items_of rule.now.pattern.items)
         (forest argument.entry)) ≡ true }
 {
-    read_fit(alloc, grammar, rule, argument, marker, top)
+    let arena = Bump::try_with_capacity(alloc, USUAL_ROOM)?;
+    let Some(last) = match_pattern(alloc, &arena, grammar, &rule.pattern, argument)? else {
+        return Ok(None);
+    };
+    let bindings = bindings_of(alloc, last)?;
+    filled(alloc, &rule.template, &bindings, marker, top)
 }
 
 // What one rule gives for an argument. `None` if it does not fit, which most show by their first
@@ -135,15 +119,19 @@ fn rule_fit<G: FragmentGrammar, M: Fn(Span) -> Span>(
     requires name { name ≡ name_key (forest argument) }
     requires marker { M.IsAlwaysCallable marker.now }
     ensures tree { (mark : Span → Span) → IsMarkedBy (M.post marker.now) mark → IfOk result (λ o. o
-        ≡ option_map (within top) (spec.rule_fit is_name (G.answer grammar.now) mark (rule_of rule.now) (forest argument.entry))) }
+        ≡ option_map (within top) (spec.rule_fit is_name (G.answer grammar.now) mark
+        (rule_of rule.now) (forest argument.entry))) }
     ensures faults { IfErr result IsWantOfRoom }
-    ensures tokens { (mark : Span → Span) → IsMarkedBy (M.post marker.now) mark → result ≡ Err Tokens →
-        template_bursts is_name (G.answer grammar.now) mark (rule_of rule.now) (the_reading (G.answer grammar.now) (items_of rule.now.pattern.items) (forest argument.entry)) ≡ true }
+    ensures tokens { (mark : Span → Span) → IsMarkedBy (M.post marker.now) mark → result
+        ≡ Err Tokens →
+        template_bursts is_name (G.answer grammar.now) mark (rule_of rule.now)
+        (the_reading (G.answer grammar.now) (items_of rule.now.pattern.items)
+        (forest argument.entry)) ≡ true }
 {
     if is_passed(alloc, &rule.pattern, key, argument, name) {
         return Ok(None);
     }
-    read_fit(alloc, grammar, rule, argument, marker, top)
+    rule_result(alloc, grammar, rule, argument, marker, top)
 }
 
 // What one rule gives for an argument. `None` if it does not fit or has another style.
@@ -163,10 +151,13 @@ fn styled_fit<G: FragmentGrammar, M: Fn(Span) -> Span>(
     requires name { name ≡ name_key (forest argument) }
     requires marker { M.IsAlwaysCallable marker.now }
     ensures tree { (mark : Span → Span) → IsMarkedBy (M.post marker.now) mark → IfOk result (λ o. o
-        ≡ option_map (within top) (spec.styled_fit is_name (G.answer grammar.now) mark style (rule_of rule.now) (forest argument.entry))) }
+        ≡ option_map (within top) (spec.styled_fit is_name (G.answer grammar.now) mark style
+        (rule_of rule.now) (forest argument.entry))) }
     ensures faults { IfErr result IsWantOfRoom }
-    ensures tokens { (mark : Span → Span) → IsMarkedBy (M.post marker.now) mark → result ≡ Err Tokens →
-        rule_bursts is_name (G.answer grammar.now) mark style (rule_of rule.now) (forest argument.entry) ≡ true }
+    ensures tokens { (mark : Span → Span) → IsMarkedBy (M.post marker.now) mark → result
+        ≡ Err Tokens →
+        rule_bursts is_name (G.answer grammar.now) mark style (rule_of rule.now)
+        (forest argument.entry) ≡ true }
 {
     if rule.style != style {
         return Ok(None);
@@ -189,11 +180,14 @@ pub(crate) fn first_fit<G: FragmentGrammar, M: Fn(Span) -> Span>(
     requires keys { keys.now ≡ keys_of (map rule_of list.now) }
     requires marker { M.IsAlwaysCallable marker.now }
     ensures fit { (mark : Span → Span) → IsMarkedBy (M.post marker.now) mark → IfOk result (λ o. o
-        ≡ option_map (λ r. (r.0, within top r.1)) (spec.fit is_name (G.answer grammar.now) mark (map rule_of list.now) style (forest argument.entry))) }
+        ≡ option_map (λ r. (r.0, within top r.1)) (spec.fit is_name (G.answer grammar.now) mark
+        (map rule_of list.now) style (forest argument.entry))) }
     ensures number { IfOk result (λ o. IfSome o (λ r. r.0 < length list.now)) }
     ensures faults { IfErr result IsWantOfRoom }
-    ensures tokens { (mark : Span → Span) → IsMarkedBy (M.post marker.now) mark → result ≡ Err Tokens →
-        bursts is_name (G.answer grammar.now) mark (map rule_of list.now) style (forest argument.entry) ≡ true }
+    ensures tokens { (mark : Span → Span) → IsMarkedBy (M.post marker.now) mark → result
+        ≡ Err Tokens →
+        bursts is_name (G.answer grammar.now) mark (map rule_of list.now) style
+        (forest argument.entry) ≡ true }
 {
     let name = name_key(argument);
     for (number, rule) in list.iter().enumerate() {

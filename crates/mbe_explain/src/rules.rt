@@ -11,7 +11,8 @@ ghost use Rattle.mbe.specs.Fit.{fit, rule_fit, same_style};
 ghost use Rattle.mbe.specs.Macros.{rules_of};
 ghost use Rattle.mbe_transcriber.specs.Markers.{is_name};
 ghost use Rattle.mbe_transcriber.specs.Room.{IsWantOfRoom};
-ghost use Rattle.mbe_explain.specs.Rules.{AreTold, HasTooMuch, IsNearest, IsRuleStop, OneHasTooMuch};
+ghost use Rattle.mbe_explain.specs.Rules.{AreTold, HasTooMuch, IsNearest, IsRuleStop};
+ghost use Rattle.mbe_explain.specs.Rules.{OneHasTooMuch};
 ghost use Rattle.mbe_explain.specs.Rules.{comes_further, first_fitting, of_style};
 
 use crate::explain::{Stop, StopKind, explain_pattern};

@@ -22,8 +22,10 @@ use tt::{TokenTreesView, TtIter};
 
 // The ops inside an op.
 fn inside(op: &Op) -> Option<&[Op]>
-    ensures names { IfSome result (λ inner. variables (items_of inner.now) ≡ variables (put_op op.now done)) }
-    ensures fewer { IfSome result (λ inner. count_of (put_op op.now done) ≡ suc (count_of (items_of inner.now))) }
+    ensures names { IfSome result (λ inner. variables (items_of inner.now)
+        ≡ variables (put_op op.now done)) }
+    ensures fewer { IfSome result (λ inner. count_of (put_op op.now done)
+        ≡ suc (count_of (items_of inner.now))) }
     ensures none { result ≡ None → is_plain (put_op op.now done) ≡ true }
 {
     match op {
@@ -36,7 +38,8 @@ fn inside(op: &Op) -> Option<&[Op]>
 // Binds the metavariable of an op without ops inside to nothing, if it is one.
 fn skip_plain<'a>(here: &mut Bindings<'a>, op: &'a Op) -> Result<(), AllocError>
     requires { is_plain (put_op op.now done) ≡ true }
-    ensures { OnOk result (map_of here.new ≡ bind_skipped (variables (put_op op.now done)) (map_of here.old)) }
+    ensures { OnOk result (map_of here.new ≡ bind_skipped (variables (put_op op.now done))
+        (map_of here.old)) }
 {
     match op {
         Op::Var { name, .. } => here.bind(name, Binding::Skipped),
@@ -47,7 +50,8 @@ fn skip_plain<'a>(here: &mut Bindings<'a>, op: &'a Op) -> Result<(), AllocError>
 // Binds each metavariable of these ops to nothing: their repetition is skipped. The lists around
 // the present one are in memory, so that nesting takes no call stack.
 fn skip<'a>(alloc: Global, here: &mut Bindings<'a>, ops: &'a [Op]) -> Result<(), AllocError>
-    ensures { OnOk result (map_of here.new ≡ bind_skipped (variables (items_of ops.now)) (map_of here.old)) }
+    ensures { OnOk result (map_of here.new ≡ bind_skipped (variables (items_of ops.now))
+        (map_of here.old)) }
 {
     let mut around = Vec::new(alloc);
     let mut list = ops;
@@ -98,7 +102,12 @@ impl<'a> Open<'a> {
     // Ends an iteration: adds its bindings to those around it, and leaves it without bindings.
     #[inline(always)]
     fn end_round(&mut self, round: &mut Bindings<'a>) -> Result<(), AllocError>
-        ensures bound { OnOk result (open_of self.new ≡ (bind_round self.old.rounds (map_of round.old) (map_of self.old.around), suc self.old.rounds)) }
+        ensures bound { OnOk result (open_of self.new
+            ≡ (
+              bind_round self.old.rounds (map_of round.old) (map_of self.old.around),
+              suc
+                  self.old.rounds,
+            )) }
         ensures left { OnOk result (map_of round.new ≡ []) }
     {
         self.around.bind_round(&self.rounds, round)?;
@@ -108,7 +117,12 @@ impl<'a> Open<'a> {
     // Ends an iteration, and makes `first` the only binding of the next one.
     #[inline(always)]
     fn begin_round(&mut self, round: &mut Bindings<'a>, first: Bound<'a>) -> Result<(), AllocError>
-        ensures bound { OnOk result (open_of self.new ≡ (bind_round self.old.rounds (map_of round.old) (map_of self.old.around), suc self.old.rounds)) }
+        ensures bound { OnOk result (open_of self.new
+            ≡ (
+              bind_round self.old.rounds (map_of round.old) (map_of self.old.around),
+              suc
+                  self.old.rounds,
+            )) }
         ensures first { OnOk result (map_of round.new ≡ entry_of first.entry ∷ []) }
     {
         self.around.bind_round_before(&self.rounds, round, first)?;
@@ -124,8 +138,13 @@ impl<'a> Open<'a> {
         kind: MetaVarKind,
         trees: &TtIter<'a>,
     ) -> Result<(), AllocError>
-        ensures { (os : List (spec.Map × ℕ)) → OnOk result ((map_of round.new, open_of self.new ∷ os)
-            ≡ after_all (rounds_of name.now kind trees.now) (map_of round.old, open_of self.old ∷ os)) }
+        ensures { (os : List (spec.Map × ℕ)) →
+            OnOk result ((map_of round.new, open_of self.new ∷ os)
+            ≡ after_all (rounds_of name.now kind trees.now) (
+              map_of round.old,
+              open_of self.old
+                  ∷ os,
+            )) }
     {
         let mut rest = trees.copied();
         while !rest.is_empty() {
@@ -147,9 +166,15 @@ impl<'a> Open<'a> {
         trees: &TtIter<'a>,
     ) -> Result<(), AllocError>
         requires alone { (b : spec.Binding) × (map_of round.old ≡ (name.now, b) ∷ []) }
-        requires values { (vs : spec.Values) × (spec.binding_of name.now (map_of self.old.around) ≡ Some (spec.rounds vs)) }
-        ensures { (os : List (spec.Map × ℕ)) → OnOk result ((map_of round.new, open_of self.new ∷ os)
-            ≡ after_all (rounds_of name.now kind trees.now) (map_of round.old, open_of self.old ∷ os)) }
+        requires values { (vs : spec.Values) × (spec.binding_of name.now (map_of self.old.around)
+            ≡ Some (spec.rounds vs)) }
+        ensures { (os : List (spec.Map × ℕ)) →
+            OnOk result ((map_of round.new, open_of self.new ∷ os)
+            ≡ after_all (rounds_of name.now kind trees.now) (
+              map_of round.old,
+              open_of self.old
+                  ∷ os,
+            )) }
     {
         let alloc = self.around.allocator();
         let mut run = Run {
@@ -178,8 +203,13 @@ impl<'a> Open<'a> {
         kind: MetaVarKind,
         trees: &TtIter<'a>,
     ) -> Result<(), AllocError>
-        ensures { (os : List (spec.Map × ℕ)) → OnOk result ((map_of round.new, open_of self.new ∷ os)
-            ≡ after_all (rounds_of name.now kind trees.now) (map_of round.old, open_of self.old ∷ os)) }
+        ensures { (os : List (spec.Map × ℕ)) →
+            OnOk result ((map_of round.new, open_of self.new ∷ os)
+            ≡ after_all (rounds_of name.now kind trees.now) (
+              map_of round.old,
+              open_of self.old
+                  ∷ os,
+            )) }
     {
         if round.is_alone(name) && self.around.has_values(name) {
             return self.begin_more(round, name, kind, trees);
@@ -263,7 +293,9 @@ impl<'a> Collected<'a> {
         kind: MetaVarKind,
         trees: TokenTreesView<'a>,
     ) -> Result<(), AllocError>
-        ensures { OnOk result (collected_of self.new ≡ after (r.fragment_move name.now kind (forest trees.entry)) (after r.next_round (collected_of self.old))) }
+        ensures { OnOk result (collected_of self.new
+            ≡ after (r.fragment_move name.now kind (forest trees.entry))
+            (after r.next_round (collected_of self.old))) }
     {
         let binding = Binding::Fragment { kind, trees };
         match self.opens.last_mut() {
@@ -291,7 +323,8 @@ impl<'a> Collected<'a> {
     // Makes one more move.
     #[inline]
     fn add(&mut self, alloc: Global, made: Move<'a>) -> Result<(), AllocError>
-        ensures { OnOk result (collected_of self.new ≡ after (move_of made.entry) (collected_of self.old)) }
+        ensures { OnOk result (collected_of self.new ≡ after (move_of made.entry)
+            (collected_of self.old)) }
     {
         match made {
             Move::Fragment { name, kind, trees } => {
@@ -318,7 +351,8 @@ impl<'a> Collected<'a> {
         kind: MetaVarKind,
         trees: &TtIter<'a>,
     ) -> Result<(), AllocError>
-        ensures { OnOk result (collected_of self.new ≡ after_all (rounds_of name.now kind trees.now) (collected_of self.old)) }
+        ensures { OnOk result (collected_of self.new ≡ after_all (rounds_of name.now kind trees.now)
+            (collected_of self.old)) }
     {
         let mut rest = trees.copied();
         while !rest.is_empty() {
@@ -336,7 +370,8 @@ impl<'a> Collected<'a> {
         kind: MetaVarKind,
         trees: &TtIter<'a>,
     ) -> Result<(), AllocError>
-        ensures { OnOk result (collected_of self.new ≡ after_all (rounds_of name.now kind trees.now) (collected_of self.old)) }
+        ensures { OnOk result (collected_of self.new ≡ after_all (rounds_of name.now kind trees.now)
+            (collected_of self.old)) }
     {
         match self.opens.last_mut() {
             Some(open) => {
@@ -355,7 +390,8 @@ impl<'a> Collected<'a> {
         kind: MetaVarKind,
         trees: TokenTreesView<'a>,
     ) -> Result<(), AllocError>
-        ensures { OnOk result (collected_of self.new ≡ after_all (rounds_of name.now kind (forest trees.entry)) (collected_of self.old)) }
+        ensures { OnOk result (collected_of self.new
+            ≡ after_all (rounds_of name.now kind (forest trees.entry)) (collected_of self.old)) }
     {
         let (first, rest) = parted(&trees.iter(), 1);
         self.begin_each(name, kind, &first.iter())?;
@@ -364,7 +400,8 @@ impl<'a> Collected<'a> {
 
     // Ends an iteration, and makes this move in the next one.
     fn begin(&mut self, alloc: Global, made: Move<'a>) -> Result<(), AllocError>
-        ensures { OnOk result (collected_of self.new ≡ after (move_of made.entry) (after r.next_round (collected_of self.old))) }
+        ensures { OnOk result (collected_of self.new ≡ after (move_of made.entry)
+            (after r.next_round (collected_of self.old))) }
     {
         match made {
             Move::Fragment { name, kind, trees } => self.begin_round(name, kind, trees),
@@ -379,7 +416,8 @@ impl<'a> Collected<'a> {
     // Makes the moves of one more entry of the log.
     #[inline(always)]
     fn add_entry(&mut self, alloc: Global, entry: &'a Entry<'a>) -> Result<(), AllocError>
-        ensures { OnOk result (collected_of self.new ≡ after_all (steps_of entry.entry) (collected_of self.old)) }
+        ensures { OnOk result (collected_of self.new ≡ after_all (steps_of entry.entry)
+            (collected_of self.old)) }
     {
         match (entry.begun, entry.made) {
             (IterationStart::Nothing, made) => self.add(alloc, made),

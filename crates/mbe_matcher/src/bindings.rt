@@ -32,7 +32,8 @@ pub enum Binding<'a> {
 impl<'a> Binding<'a> {
     // The values of iterations. A fragment's trees are not freed: they are only borrowed.
     fn into_values(self) -> Option<Vec<Binding<'a>>>
-        ensures fewer { IfSome result (λ v. count_of (standing_for self.entry) ≡ suc (count_values (values_of v.items))) }
+        ensures fewer { IfSome result (λ v. count_of (standing_for self.entry)
+            ≡ suc (count_values (values_of v.items))) }
         ensures flatter { IfSome result (λ v. most size-Binding v.items < size-Binding self.entry) }
     {
         match self {
@@ -129,7 +130,8 @@ pub struct Bindings<'a> {
 fn fill_up<'a>(values: &mut Vec<Binding<'a>>, round: &Count) -> Result<(), AllocError>
     ensures filled { OnOk result (round.now ≤ length values.new.items) }
     ensures same { OnOk result ((b : spec.Binding) →
-        value_put round.now b (values_of values.new.items) ≡ value_put round.now b (values_of values.old.items)) }
+        value_put round.now b (values_of values.new.items)
+        ≡ value_put round.now b (values_of values.old.items)) }
 {
     while round.is_above(values.len()) {
         let none = Vec::new(*values.allocator());
@@ -217,7 +219,8 @@ impl<'a> Bindings<'a> {
 
     /// The binding of a name, if it has one.
     pub fn get(&self, name: &Symbol) -> Option<&Binding<'a>>
-        ensures { option_map (λ b. standing_for b.now) result ≡ binding_of name.now (map_of self.now) }
+        ensures { option_map (λ b. standing_for b.now) result
+            ≡ binding_of name.now (map_of self.now) }
     {
         match self.position(name) {
             Some(i) => Some(&self.bound[i].binding),
@@ -236,24 +239,30 @@ impl<'a> Bindings<'a> {
     /// Replaces the value of the one name that is bound, and answers the old one.
     pub(crate) fn replace_alone(&mut self, binding: Binding<'a>) -> Binding<'a>
         requires { (n : List ℕ) × (b : spec.Binding) × (map_of self.old ≡ (n, b) ∷ []) }
-        ensures new { (n : List ℕ) (b : spec.Binding) → map_of self.old ≡ (n, b) ∷ [] → map_of self.new ≡ (n, standing_for binding.entry) ∷ [] }
-        ensures old { (n : List ℕ) (b : spec.Binding) → map_of self.old ≡ (n, b) ∷ [] → standing_for result ≡ b }
+        ensures new { (n : List ℕ) (b : spec.Binding) → map_of self.old ≡ (n, b) ∷ [] →
+            map_of self.new ≡ (n, standing_for binding.entry) ∷ [] }
+        ensures old { (n : List ℕ) (b : spec.Binding) → map_of self.old ≡ (n, b) ∷ [] →
+            standing_for result ≡ b }
     {
         mem::replace(&mut self.bound[0].binding, binding)
     }
 
     /// Whether the name has values of iterations.
     pub(crate) fn has_values(&self, name: &Symbol) -> bool
-        ensures { result ≡ true → (vs : spec.Values) × (binding_of name.now (map_of self.now) ≡ Some (spec.rounds vs)) }
+        ensures { result ≡ true → (vs : spec.Values) × (binding_of name.now (map_of self.now)
+            ≡ Some (spec.rounds vs)) }
     {
         matches!(self.get(name), Some(Binding::Rounds(_)))
     }
 
     /// Takes out the values of iterations that the name has.
     pub(crate) fn take_values(&mut self, name: &Symbol) -> Vec<Binding<'a>>
-        requires { (vs : spec.Values) × (binding_of name.now (map_of self.old) ≡ Some (spec.rounds vs)) }
-        ensures values { binding_of name.now (map_of self.old) ≡ Some (spec.rounds (values_of result.items)) }
-        ensures others { (b : spec.Binding) → bind name.now b (map_of self.new) ≡ bind name.now b (map_of self.old) }
+        requires { (vs : spec.Values) × (binding_of name.now (map_of self.old)
+            ≡ Some (spec.rounds vs)) }
+        ensures values { binding_of name.now (map_of self.old)
+            ≡ Some (spec.rounds (values_of result.items)) }
+        ensures others { (b : spec.Binding) → bind name.now b (map_of self.new)
+            ≡ bind name.now b (map_of self.old) }
     {
         let Some(i) = self.position(name) else {
             unreachable!()
@@ -264,7 +273,8 @@ impl<'a> Bindings<'a> {
     /// Binds the name, in place of what it was bound to.
     #[inline]
     pub fn bind(&mut self, name: &'a Symbol, binding: Binding<'a>) -> Result<(), AllocError>
-        ensures { OnOk result (map_of self.new ≡ bind name.now (standing_for binding.entry) (map_of self.old)) }
+        ensures { OnOk result (map_of self.new ≡ bind name.now (standing_for binding.entry)
+            (map_of self.old)) }
     {
         let bound = Bound { name, binding };
         match self.position(name) {
@@ -288,7 +298,8 @@ impl<'a> Bindings<'a> {
         value: Binding<'a>,
     ) -> Result<(), AllocError>
         ensures { OnOk result (map_of self.new
-            ≡ bind name.now (with_round round.now (standing_for value.entry) (binding_of name.now (map_of self.old))) (map_of self.old)) }
+            ≡ bind name.now (with_round round.now (standing_for value.entry)
+            (binding_of name.now (map_of self.old))) (map_of self.old)) }
     {
         match self.position(name) {
             Some(i) => {

@@ -36,7 +36,8 @@ pub fn pass_fragment<'a, G: FragmentGrammar>(
         forest result.trees ≡ before (reach trees.old prefix.tokens).0 trees.old }
     ensures rest { let prefix = G.answer grammar.now entry (shape trees.old) in
         trees.new ≡ past (reach trees.old prefix.tokens).0 trees.old }
-    ensures fault { result.is_faulty ≡ is_no_fragment trees.old (G.answer grammar.now entry (shape trees.old)) }
+    ensures fault { result.is_faulty ≡ is_no_fragment trees.old (G.answer grammar.now entry
+        (shape trees.old)) }
 {
     let prefix = grammar.prefix(entry, trees.remaining());
     let (count, is_inside) = reached(trees, prefix.tokens);
@@ -106,7 +107,8 @@ pub fn expect_fragment<'a, G: FragmentGrammar>(
         IfOk result (λ r. forest r.value ≡ before (reach trees.old prefix.tokens).0 trees.old) }
     ensures rest { let prefix = G.answer grammar.now entry (shape trees.old) in
         OnOk result (trees.new ≡ past (reach trees.old prefix.tokens).0 trees.old) }
-    ensures err { IfOk result (λ r. r.err ≡ missing_at entry trees.old delim_span.close_span (G.answer grammar.now entry (shape trees.old))) }
+    ensures err { IfOk result (λ r. r.err ≡ missing_at entry trees.old delim_span.close_span
+        (G.answer grammar.now entry (shape trees.old))) }
     ensures unmoved { OnErr result (trees.new ≡ trees.old) }
     ensures memory { IsOkUnless result fault.Memory }
 {

@@ -1,7 +1,9 @@
 //! What each fragment specifier accepts: how many trees a metavariable takes at the head of a
 //! list.
 ghost use Rattle.std.specs.Prelude.{◌≡◌, Some, ◌-◌, ◌+◌};
-ghost use Rattle.mbe_matcher.specs.Fragments.{taken, ident_trees, lifetime_trees, unsigned_trees, literal_trees, tree_trees, is_refused, is_refused_2021, unless_refused};
+ghost use Rattle.mbe_matcher.specs.Fragments.{taken, ident_trees, lifetime_trees, unsigned_trees};
+ghost use Rattle.mbe_matcher.specs.Fragments.{literal_trees, tree_trees, is_refused};
+ghost use Rattle.mbe_matcher.specs.Fragments.{is_refused_2021, unless_refused};
 ghost use Rattle.mbe_matcher.specs.Grammar.{asked, reach};
 ghost use Rattle.mbe_matcher.specs.Places.{left_after};
 ghost use Rattle.fragment_grammar.specs.declared.fragment.PrefixEntryPoint.TheVariants as entry;
@@ -196,7 +198,8 @@ fn expr_trees<G: FragmentGrammar>(
     is_refused: bool,
     trees: &TtIter<'_>,
 ) -> Option<usize>
-    ensures { result ≡ unless_refused is_refused (asked (G.answer grammar.now) entry.Expr trees.now) }
+    ensures { result ≡ unless_refused is_refused (asked (G.answer grammar.now) entry.Expr
+        trees.now) }
 {
     if is_refused {
         return None;

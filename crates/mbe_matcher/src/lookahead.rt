@@ -52,7 +52,8 @@ pub(crate) fn is_stuck(thread: &Thread<'_>, place: &Place<'_>) -> bool
 // Whether an op, which is no repetition, consumes something, and it is not here.
 #[inline]
 fn is_absent(op: &Op, place: &Place<'_>) -> bool
-    ensures { result ≡ true → (rest : Items) (fs : List r.Frame) → HasNoMove (r.at (put_op op.now rest) fs (place_of place.now)) }
+    ensures { result ≡ true → (rest : Items) (fs : List r.Frame) →
+        HasNoMove (r.at (put_op op.now rest) fs (place_of place.now)) }
 {
     match op {
         Op::Var {
@@ -66,7 +67,8 @@ fn is_absent(op: &Op, place: &Place<'_>) -> bool
 // Whether no move leads on from these ops, since the first one is not here.
 #[inline]
 pub(crate) fn is_over_at(items: &[Op], place: &Place<'_>) -> bool
-    ensures { result ≡ true → (fs : List r.Frame) → HasNoMove (r.at (items_of items.now) fs (place_of place.now)) }
+    ensures { result ≡ true → (fs : List r.Frame) →
+        HasNoMove (r.at (items_of items.now) fs (place_of place.now)) }
 {
     match items.split_first() {
         Some((op, _rest)) => is_absent(op, place),
@@ -77,7 +79,8 @@ pub(crate) fn is_over_at(items: &[Op], place: &Place<'_>) -> bool
 // Whether no move leads on from these ops in these frames, and they are not at the end.
 #[inline]
 pub(crate) fn is_over<'a>(items: &'a [Op], frames: Option<&'a Rung<'a>>, place: &Place<'a>) -> bool
-    ensures { result ≡ true → HasNoMove (r.at (items_of items.now) (frames_of frames.entry) (place_of place.now)) }
+    ensures { result ≡ true → HasNoMove (r.at (items_of items.now) (frames_of frames.entry)
+        (place_of place.now)) }
 {
     if !items.is_empty() {
         return is_over_at(items, place);

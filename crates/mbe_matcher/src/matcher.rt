@@ -1,6 +1,7 @@
 //! The loop of the matching algorithm: all threads that read an argument by a matcher, together,
 //! position by position.
-ghost use Rattle.std.specs.Prelude.{◌≡◌, ◌<◌, ◌≤◌, ◌+◌, List, [], ◌∷◌, ◌++◌, option_map, IfOk, IfSome, OnOk, Some, None, true, false};
+ghost use Rattle.std.specs.Prelude.{◌≡◌, ◌<◌, ◌≤◌, ◌+◌, List, [], ◌∷◌, ◌++◌, option_map, IfOk};
+ghost use Rattle.std.specs.Prelude.{IfSome, OnOk, Some, None, true, false};
 ghost use Rattle.std.specs.List.{flat_map};
 ghost use Rattle.tt.specs.Views.{forest};
 ghost use Rattle.mbe_rules.specs.Items.{Items, has_empty_round};
@@ -9,11 +10,13 @@ ghost use Rattle.mbe_matcher.specs.Grammar.{Grammar};
 ghost use Rattle.mbe_matcher.specs.Paths.{clash, only};
 ghost use Rattle.mbe_matcher.specs.Places.{place_of};
 ghost use Rattle.mbe_matcher.specs.Readings as r;
-ghost use Rattle.mbe_matcher.specs.Settled.{Leads, HasEnd, going_on, IsGood, IsSound, IsSoundAt, most_tasks, planned, tasks_of, tasks_of_all};
+ghost use Rattle.mbe_matcher.specs.Settled.{Leads, HasEnd, going_on, IsGood, IsSound, IsSoundAt};
+ghost use Rattle.mbe_matcher.specs.Settled.{most_tasks, planned, tasks_of, tasks_of_all};
 ghost use Rattle.mbe_matcher.specs.Units as u;
 ghost use Rattle.mbe_matcher.specs.declared.matcher.SettleTask.{SettleTask};
 ghost use Rattle.mbe_matcher.specs.Waiting.{settled_at, advanced_by, empties_at, finished, Each};
-ghost use Rattle.mbe_matcher.specs.Threads.{Waits, moves_of, state_of, waits, waits_at, waiting_at, takings_of, head_taken, is_trees};
+ghost use Rattle.mbe_matcher.specs.Threads.{Waits, moves_of, state_of, waits, waits_at, waiting_at};
+ghost use Rattle.mbe_matcher.specs.Threads.{takings_of, head_taken, is_trees};
 ghost use Rattle.mbe_matcher.specs.declared.matcher.SettleTask.TheVariants.{GoOn};
 ghost use Rattle.mbe_matcher.specs.declared.step.Waiting.TheVariants.{Pending};
 ghost use Rattle.mbe_matcher.specs.declared.thread.Thread.{Thread};
@@ -86,7 +89,8 @@ impl<'a> Settled<'a> {
     fn plan(&mut self, choice: Option<Choice<'a>>) -> Result<(), AllocError>
         ensures waiting { OnOk result (self.new.waiting.items ≡ self.old.waiting.items) }
         ensures seen { OnOk result (self.new.seen ≡ self.old.seen) }
-        ensures tasks { OnOk result (self.new.tasks.items ≡ self.old.tasks.items ++ planned choice.entry) }
+        ensures tasks { OnOk result (self.new.tasks.items ≡ self.old.tasks.items
+            ++ planned choice.entry) }
     {
         match choice {
             None => Ok(()),
@@ -101,10 +105,14 @@ impl<'a> Settled<'a> {
     #[inline(always)]
     fn take_one(&mut self, choice: Choice<'a>) -> Result<(), AllocError>
         ensures all { (gr : Grammar) (pattern : Items) (p : u.Place) (all : List Waits) →
-            Leads gr pattern p all self.old.waiting.items self.old.seen (self.old.tasks.items ++ (GoOn choice.entry ∷ [])) →
-            OnOk result (Leads gr pattern p all self.new.waiting.items self.new.seen self.new.tasks.items) }
-        ensures tasks { (p : u.Place) → Each (HasEnd p) (self.old.tasks.items ++ (GoOn choice.entry ∷ [])) → OnOk result (Each (HasEnd p) self.new.tasks.items) }
-        ensures fewer { (p : u.Place) → OnOk result (tasks_of_all p self.new.tasks.items ≤ tasks_of_all p (self.old.tasks.items ++ (GoOn choice.entry ∷ []))) }
+            Leads gr pattern p all self.old.waiting.items self.old.seen (self.old.tasks.items
+            ++ (GoOn choice.entry ∷ [])) →
+            OnOk result (Leads gr pattern p all self.new.waiting.items self.new.seen
+            self.new.tasks.items) }
+        ensures tasks { (p : u.Place) → Each (HasEnd p) (self.old.tasks.items
+            ++ (GoOn choice.entry ∷ [])) → OnOk result (Each (HasEnd p) self.new.tasks.items) }
+        ensures fewer { (p : u.Place) → OnOk result (tasks_of_all p self.new.tasks.items
+            ≤ tasks_of_all p (self.old.tasks.items ++ (GoOn choice.entry ∷ []))) }
     {
         match choice.taken {
             Some(taken) => {
@@ -123,10 +131,14 @@ impl<'a> Settled<'a> {
     #[inline(always)]
     fn take(&mut self, choice: Option<Choice<'a>>) -> Result<(), AllocError>
         ensures all { (gr : Grammar) (pattern : Items) (p : u.Place) (all : List Waits) →
-            Leads gr pattern p all self.old.waiting.items self.old.seen (self.old.tasks.items ++ planned choice.entry) →
-            OnOk result (Leads gr pattern p all self.new.waiting.items self.new.seen self.new.tasks.items) }
-        ensures tasks { (p : u.Place) → Each (HasEnd p) (self.old.tasks.items ++ planned choice.entry) → OnOk result (Each (HasEnd p) self.new.tasks.items) }
-        ensures fewer { (p : u.Place) → OnOk result (tasks_of_all p self.new.tasks.items ≤ tasks_of_all p (self.old.tasks.items ++ planned choice.entry)) }
+            Leads gr pattern p all self.old.waiting.items self.old.seen (self.old.tasks.items
+            ++ planned choice.entry) →
+            OnOk result (Leads gr pattern p all self.new.waiting.items self.new.seen
+            self.new.tasks.items) }
+        ensures tasks { (p : u.Place) → Each (HasEnd p) (self.old.tasks.items
+            ++ planned choice.entry) → OnOk result (Each (HasEnd p) self.new.tasks.items) }
+        ensures fewer { (p : u.Place) → OnOk result (tasks_of_all p self.new.tasks.items
+            ≤ tasks_of_all p (self.old.tasks.items ++ planned choice.entry)) }
     {
         match choice {
             None => Ok(()),
@@ -147,12 +159,17 @@ impl<'a> Settled<'a> {
     ) -> Result<(), AllocError>
         requires good { IsGood (state_of thread (place_of place.now)) }
         requires tasks { Each (HasEnd (place_of place.now)) self.now.tasks.items }
-        ensures all { let p = place_of place.now in let gr = G.answer grammar.now in (pattern : Items) (all : List Waits) →
-            Leads gr pattern p all self.old.waiting.items self.old.seen (self.old.tasks.items ++ (GoOn (record { thread = thread.entry; taken = None }) ∷ [])) →
-            OnOk result (Leads gr pattern p all self.new.waiting.items self.new.seen self.new.tasks.items) }
+        ensures all { let p = place_of place.now in let gr = G.answer grammar.now in
+            (pattern : Items) (all : List Waits) →
+            Leads gr pattern p all self.old.waiting.items self.old.seen (self.old.tasks.items
+            ++ (GoOn (record { thread = thread.entry; taken = None }) ∷ [])) →
+            OnOk result (Leads gr pattern p all self.new.waiting.items self.new.seen
+            self.new.tasks.items) }
         ensures tasks { OnOk result (Each (HasEnd (place_of place.now)) self.new.tasks.items) }
         ensures fewer { let p = place_of place.now in
-            OnOk result (tasks_of_all p self.new.tasks.items + 2 ≤ tasks_of_all p self.old.tasks.items + most_tasks (empties_at (state_of thread.entry p))) }
+            OnOk result (tasks_of_all p self.new.tasks.items + 2
+            ≤ tasks_of_all p self.old.tasks.items + most_tasks
+            (empties_at (state_of thread.entry p))) }
     {
         if thread.has_ended(place) {
             self.waiting.push(Waiting::Ended(thread.moves))?;
@@ -175,12 +192,16 @@ impl<'a> Settled<'a> {
     ) -> Result<(), AllocError>
         requires good { IsGood (state_of thread (place_of place.now)) }
         requires tasks { Each (HasEnd (place_of place.now)) self.now.tasks.items }
-        ensures all { let p = place_of place.now in let gr = G.answer grammar.now in (pattern : Items) (all : List Waits) →
-            Leads gr pattern p all self.old.waiting.items self.old.seen (self.old.tasks.items ++ (GoOn (record { thread = thread.entry; taken = None }) ∷ [])) →
-            OnOk result (Leads gr pattern p all self.new.waiting.items self.new.seen self.new.tasks.items) }
+        ensures all { let p = place_of place.now in let gr = G.answer grammar.now in
+            (pattern : Items) (all : List Waits) →
+            Leads gr pattern p all self.old.waiting.items self.old.seen (self.old.tasks.items
+            ++ (GoOn (record { thread = thread.entry; taken = None }) ∷ [])) →
+            OnOk result (Leads gr pattern p all self.new.waiting.items self.new.seen
+            self.new.tasks.items) }
         ensures tasks { OnOk result (Each (HasEnd (place_of place.now)) self.new.tasks.items) }
         ensures fewer { let p = place_of place.now in
-            OnOk result (tasks_of_all p self.new.tasks.items < tasks_of_all p self.old.tasks.items + most_tasks (empties_at (state_of thread.entry p))) }
+            OnOk result (tasks_of_all p self.new.tasks.items < tasks_of_all p self.old.tasks.items
+            + most_tasks (empties_at (state_of thread.entry p))) }
     {
         let twice = self.seen.was_settled(&thread);
         if twice && self.seen.was_settled_twice(&thread) {
@@ -202,12 +223,16 @@ impl<'a> Settled<'a> {
     ) -> Result<(), AllocError>
         requires good { IsGood (state_of thread (place_of place.now)) }
         requires tasks { Each (HasEnd (place_of place.now)) self.now.tasks.items }
-        ensures all { let p = place_of place.now in let gr = G.answer grammar.now in (pattern : Items) (all : List Waits) →
-            Leads gr pattern p all self.old.waiting.items self.old.seen (self.old.tasks.items ++ (GoOn (record { thread = thread.entry; taken = None }) ∷ [])) →
-            OnOk result (Leads gr pattern p all self.new.waiting.items self.new.seen self.new.tasks.items) }
+        ensures all { let p = place_of place.now in let gr = G.answer grammar.now in
+            (pattern : Items) (all : List Waits) →
+            Leads gr pattern p all self.old.waiting.items self.old.seen (self.old.tasks.items
+            ++ (GoOn (record { thread = thread.entry; taken = None }) ∷ [])) →
+            OnOk result (Leads gr pattern p all self.new.waiting.items self.new.seen
+            self.new.tasks.items) }
         ensures tasks { OnOk result (Each (HasEnd (place_of place.now)) self.new.tasks.items) }
         ensures fewer { let p = place_of place.now in
-            OnOk result (tasks_of_all p self.new.tasks.items < tasks_of_all p self.old.tasks.items + most_tasks (empties_at (state_of thread.entry p))) }
+            OnOk result (tasks_of_all p self.new.tasks.items < tasks_of_all p self.old.tasks.items
+            + most_tasks (empties_at (state_of thread.entry p))) }
     {
         if is_stuck(&thread, place) {
             return Ok(());
@@ -229,12 +254,16 @@ impl<'a> Settled<'a> {
     ) -> Result<(), AllocError>
         requires task { HasEnd (place_of place.now) task }
         requires tasks { Each (HasEnd (place_of place.now)) self.now.tasks.items }
-        ensures all { let p = place_of place.now in let gr = G.answer grammar.now in (pattern : Items) (all : List Waits) →
-            Leads gr pattern p all self.old.waiting.items self.old.seen (self.old.tasks.items ++ (task.entry ∷ [])) →
-            OnOk result (Leads gr pattern p all self.new.waiting.items self.new.seen self.new.tasks.items) }
+        ensures all { let p = place_of place.now in let gr = G.answer grammar.now in
+            (pattern : Items) (all : List Waits) →
+            Leads gr pattern p all self.old.waiting.items self.old.seen (self.old.tasks.items
+            ++ (task.entry ∷ [])) →
+            OnOk result (Leads gr pattern p all self.new.waiting.items self.new.seen
+            self.new.tasks.items) }
         ensures tasks { OnOk result (Each (HasEnd (place_of place.now)) self.new.tasks.items) }
         ensures fewer { let p = place_of place.now in
-            OnOk result (tasks_of_all p self.new.tasks.items < tasks_of_all p self.old.tasks.items + tasks_of p task.entry) }
+            OnOk result (tasks_of_all p self.new.tasks.items < tasks_of_all p self.old.tasks.items
+            + tasks_of p task.entry) }
     {
         match task {
             SettleTask::Note(seen) => {
@@ -266,9 +295,12 @@ impl<'a> Settled<'a> {
         requires tasks { self.now.tasks.items ≡ [] }
         requires good { IsGood (state_of thread (place_of place.now)) }
         ensures done { OnOk result (self.new.tasks.items ≡ []) }
-        ensures all { let p = place_of place.now in let gr = G.answer grammar.now in (pattern : Items) (all : List Waits) →
-            Leads gr pattern p all self.old.waiting.items self.old.seen (GoOn (record { thread = thread.entry; taken = None }) ∷ []) →
-            OnOk result (Leads gr pattern p all self.new.waiting.items self.new.seen self.new.tasks.items) }
+        ensures all { let p = place_of place.now in let gr = G.answer grammar.now in
+            (pattern : Items) (all : List Waits) →
+            Leads gr pattern p all self.old.waiting.items self.old.seen
+            (GoOn (record { thread = thread.entry; taken = None }) ∷ []) →
+            OnOk result (Leads gr pattern p all self.new.waiting.items self.new.seen
+            self.new.tasks.items) }
     {
         self.go_on(arena, grammar, thread, place)?;
         while let Some(task) = self.tasks.pop() {
@@ -289,11 +321,15 @@ impl<'a> Settled<'a> {
         requires { IsGood (state_of thread (place_of place.now)) }
         ensures tasks { OnOk result (self.new.tasks.items ≡ self.old.tasks.items) }
         ensures seen { OnOk result (self.new.seen ≡ self.old.seen) }
-        ensures open { IfOk result (λ o. IfSome o (λ t. self.new.waiting.items ≡ self.old.waiting.items)) }
+        ensures open { IfOk result (λ o. IfSome o (λ t. self.new.waiting.items
+            ≡ self.old.waiting.items)) }
         ensures good { IfOk result (λ o. IfSome o (λ t. IsGood (state_of t (place_of place.now)))) }
-        ensures all { let p = place_of place.now in let gr = G.answer grammar.now in (pattern : Items) (all : List Waits) (ts : List SettleTask) →
-            Leads gr pattern p all self.old.waiting.items self.old.seen (ts ++ going_on (Some thread.entry)) →
-            IfOk result (λ o. Leads gr pattern p all self.new.waiting.items self.old.seen (ts ++ going_on o)) }
+        ensures all { let p = place_of place.now in let gr = G.answer grammar.now in
+            (pattern : Items) (all : List Waits) (ts : List SettleTask) →
+            Leads gr pattern p all self.old.waiting.items self.old.seen (ts
+            ++ going_on (Some thread.entry)) →
+            IfOk result (λ o. Leads gr pattern p all self.new.waiting.items self.old.seen (ts
+            ++ going_on o)) }
     {
         match thread.way(arena, grammar, place)? {
             Way::Waits(w) => {
@@ -318,11 +354,15 @@ impl<'a> Settled<'a> {
         requires { Each (HasEnd (place_of place.now)) (planned choice) }
         ensures tasks { OnOk result (self.new.tasks.items ≡ self.old.tasks.items) }
         ensures seen { OnOk result (self.new.seen ≡ self.old.seen) }
-        ensures open { IfOk result (λ o. IfSome o (λ t. self.new.waiting.items ≡ self.old.waiting.items)) }
+        ensures open { IfOk result (λ o. IfSome o (λ t. self.new.waiting.items
+            ≡ self.old.waiting.items)) }
         ensures good { IfOk result (λ o. IfSome o (λ t. IsGood (state_of t (place_of place.now)))) }
-        ensures all { let p = place_of place.now in let gr = G.answer grammar.now in (pattern : Items) (all : List Waits) (ts : List SettleTask) →
-            Leads gr pattern p all self.old.waiting.items self.old.seen (ts ++ planned choice.entry) →
-            IfOk result (λ o. Leads gr pattern p all self.new.waiting.items self.old.seen (ts ++ going_on o)) }
+        ensures all { let p = place_of place.now in let gr = G.answer grammar.now in
+            (pattern : Items) (all : List Waits) (ts : List SettleTask) →
+            Leads gr pattern p all self.old.waiting.items self.old.seen (ts
+            ++ planned choice.entry) →
+            IfOk result (λ o. Leads gr pattern p all self.new.waiting.items self.old.seen (ts
+            ++ going_on o)) }
     {
         let Some(choice) = choice else {
             return Ok(None);
@@ -351,9 +391,12 @@ impl<'a> Settled<'a> {
         requires tasks { self.now.tasks.items ≡ [] }
         requires good { IsGood (state_of thread (place_of place.now)) }
         ensures done { OnOk result (self.new.tasks.items ≡ []) }
-        ensures all { let p = place_of place.now in let gr = G.answer grammar.now in (pattern : Items) (all : List Waits) →
-            Leads gr pattern p all self.old.waiting.items self.old.seen (GoOn (record { thread = thread.entry; taken = None }) ∷ []) →
-            OnOk result (Leads gr pattern p all self.new.waiting.items self.new.seen self.new.tasks.items) }
+        ensures all { let p = place_of place.now in let gr = G.answer grammar.now in
+            (pattern : Items) (all : List Waits) →
+            Leads gr pattern p all self.old.waiting.items self.old.seen
+            (GoOn (record { thread = thread.entry; taken = None }) ∷ []) →
+            OnOk result (Leads gr pattern p all self.new.waiting.items self.new.seen
+            self.new.tasks.items) }
     {
         if thread.has_ended(place) {
             self.settle(arena, grammar, thread, place)?;
@@ -381,12 +424,18 @@ impl<'a> Settled<'a> {
         place: &mut Place<'a>,
     ) -> Result<Alone<'a>, AllocError>
         requires tasks { self.now.tasks.items ≡ [] }
-        requires sound { (pattern : Items) × IsSound pattern (state_of thread (place_of place.old)) }
+        requires sound { (pattern : Items)
+            × IsSound pattern (state_of thread (place_of place.old)) }
         ensures done { OnOk result (self.new.tasks.items ≡ []) }
-        ensures alone { IfOk result (λ a. LeadsAlone (G.answer grammar.now) (moves_of thread.entry.moves) (state_of thread.entry (place_of place.old)) (place_of place.new) a) }
-        ensures all { let p = place_of place.new in let gr = G.answer grammar.now in (pattern : Items) (all : List Waits) (t : Thread) →
-            Leads gr pattern p all self.old.waiting.items self.old.seen (GoOn (record { thread = t; taken = None }) ∷ []) →
-            IfOk result (λ a. a ≡ Open t → Leads gr pattern p all self.new.waiting.items self.new.seen []) }
+        ensures alone { IfOk result (λ a. LeadsAlone (G.answer grammar.now)
+            (moves_of thread.entry.moves) (state_of thread.entry (place_of place.old))
+            (place_of place.new) a) }
+        ensures all { let p = place_of place.new in let gr = G.answer grammar.now in
+            (pattern : Items) (all : List Waits) (t : Thread) →
+            Leads gr pattern p all self.old.waiting.items self.old.seen
+            (GoOn (record { thread = t; taken = None }) ∷ []) →
+            IfOk result (λ a. a ≡ Open t → Leads gr pattern p all self.new.waiting.items
+            self.new.seen []) }
     {
         let alone = thread.go_alone(arena, grammar, place)?;
         match alone {
@@ -410,9 +459,12 @@ impl<'a> Settled<'a> {
         requires tasks { self.now.tasks.items ≡ [] }
         requires good { IsGood (state_of thread (place_of place.now)) }
         ensures done { OnOk result (self.new.tasks.items ≡ []) }
-        ensures all { let p = place_of place.now in let gr = G.answer grammar.now in (pattern : Items) (all : List Waits) →
-            Leads gr pattern p all self.old.waiting.items self.old.seen (GoOn (record { thread = thread.entry; taken = None }) ∷ []) →
-            OnOk result (Leads gr pattern p all self.new.waiting.items self.new.seen self.new.tasks.items) }
+        ensures all { let p = place_of place.now in let gr = G.answer grammar.now in
+            (pattern : Items) (all : List Waits) →
+            Leads gr pattern p all self.old.waiting.items self.old.seen
+            (GoOn (record { thread = thread.entry; taken = None }) ∷ []) →
+            OnOk result (Leads gr pattern p all self.new.waiting.items self.new.seen
+            self.new.tasks.items) }
     {
         let Some(next) = self.take_thread(arena, grammar, thread, place)? else {
             return Ok(());
@@ -433,11 +485,14 @@ impl<'a> Settled<'a> {
         place: &Place<'a>,
     ) -> Result<(), AllocError>
         requires tasks { self.now.tasks.items ≡ [] }
-        requires sound { (pattern : Items) × IsSoundAt pattern (waiting_at (place_of place.now) w.now) }
+        requires sound { (pattern : Items)
+            × IsSoundAt pattern (waiting_at (place_of place.now) w.now) }
         ensures done { OnOk result (self.new.tasks.items ≡ []) }
-        ensures all { let p = place_of place.now in let gr = G.answer grammar.now in (pattern : Items) (all : List Waits) → IsSoundAt pattern (waiting_at p w.now) →
+        ensures all { let p = place_of place.now in let gr = G.answer grammar.now in
+            (pattern : Items) (all : List Waits) → IsSoundAt pattern (waiting_at p w.now) →
             Leads gr pattern p all self.old.waiting.items self.old.seen [] →
-            OnOk result (Leads gr pattern p (all ++ advanced_by (settled_at gr) (waiting_at p w.now)) self.new.waiting.items self.new.seen []) }
+            OnOk result (Leads gr pattern p (all ++ advanced_by (settled_at gr)
+            (waiting_at p w.now)) self.new.waiting.items self.new.seen []) }
     {
         match w {
             Waiting::Ended(moves) => {
@@ -466,10 +521,13 @@ impl<'a> Settled<'a> {
         requires waiting { self.now.waiting.items ≡ [] }
         requires seen { self.now.seen ≡ [] }
         requires tasks { self.now.tasks.items ≡ [] }
-        requires sound { (pattern : Items) × Each (IsSoundAt pattern) (waits_at (place_of place.now) waiting.now) }
+        requires sound { (pattern : Items) × Each (IsSoundAt pattern) (waits_at (place_of place.now)
+            waiting.now) }
         ensures done { OnOk result (self.new.tasks.items ≡ []) }
-        ensures all { let p = place_of place.now in let gr = G.answer grammar.now in (pattern : Items) → Each (IsSoundAt pattern) (waits_at p waiting.now) →
-            OnOk result (Leads gr pattern p (flat_map (advanced_by (settled_at gr)) (waits_at p waiting.now)) self.new.waiting.items self.new.seen []) }
+        ensures all { let p = place_of place.now in let gr = G.answer grammar.now in
+            (pattern : Items) → Each (IsSoundAt pattern) (waits_at p waiting.now) →
+            OnOk result (Leads gr pattern p (flat_map (advanced_by (settled_at gr))
+            (waits_at p waiting.now)) self.new.waiting.items self.new.seen []) }
     {
         let few = waiting.len() <= FEW;
         for w in waiting {
@@ -528,7 +586,8 @@ fn first_taken(waiting: &[Waiting<'_>]) -> Option<Consumed>
 // The only list of moves, if no thread waits and there is exactly one.
 fn only_ended<'a>(waiting: &[Waiting<'a>]) -> Option<Option<&'a Entry<'a>>>
     requires { head_taken waiting.now ≡ None }
-    ensures { (p : u.Place) → option_map moves_of result ≡ only (flat_map finished (waits p waiting.now)) }
+    ensures { (p : u.Place) → option_map moves_of result
+        ≡ only (flat_map finished (waits p waiting.now)) }
 {
     if waiting.len() != 1 {
         return None;

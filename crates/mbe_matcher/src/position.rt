@@ -7,7 +7,9 @@ ghost use Rattle.mbe_rules.specs.Trees.{before, past};
 ghost use Rattle.tt.specs.Glued.{characters};
 ghost use Rattle.mbe_matcher.specs.Readings as r;
 ghost use Rattle.mbe_matcher.specs.Units as u;
-ghost use Rattle.mbe_matcher.specs.Units.{same_unit, a_name, a_literal, glued, a_lifetime, opening, closing, first_characters, is_separator, unit_at, unit_trees};
+ghost use Rattle.mbe_matcher.specs.Units.{same_unit, a_name, a_literal, glued, a_lifetime, opening};
+ghost use Rattle.mbe_matcher.specs.Units.{closing, first_characters, is_separator, unit_at};
+ghost use Rattle.mbe_matcher.specs.Units.{unit_trees};
 ghost use Rattle.mbe_matcher.specs.Places.{place_of, place_after, quoted_name, is_named_truth};
 
 use mbe_rules::Separator;
@@ -186,7 +188,8 @@ impl<'a> Place<'a> {
     // Whether a literal with this text and suffix is here.
     #[tactic(auto, using(crate::proofs::LentLemmas::a_leaf, crate::proofs::LentLemmas::leaf_here, crate::proofs::LentLemmas::no_literal_here))]
     pub(crate) fn is_literal(&self, literal: &Literal) -> bool
-        ensures { result ≡ same_unit (a_literal literal.now.text literal.now.suffix) (unit_at (place_of self.now)) }
+        ensures { result ≡ same_unit (a_literal literal.now.text literal.now.suffix)
+            (unit_at (place_of self.now)) }
     {
         let Some((leaf, _behind)) = self.rest.lent_leaf() else {
             return false;
@@ -227,7 +230,8 @@ impl<'a> Place<'a> {
     // Whether a literal without suffix has the text of the identifier here, which is `true` or
     // `false`.
     fn is_truth(&self, literal: &Literal) -> bool
-        ensures { result ≡ is_named_truth literal.now.text literal.now.suffix (unit_at (place_of self.now)) }
+        ensures { result ≡ is_named_truth literal.now.text literal.now.suffix
+            (unit_at (place_of self.now)) }
     {
         match self.rest.peek() {
             Some(TtElement::Leaf(Leaf::Ident(here))) => {

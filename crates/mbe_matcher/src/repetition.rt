@@ -70,7 +70,8 @@ fn trees_of_round<G: FragmentGrammar>(
     kind: MetaVarKind,
     trees: &TtIter<'_>,
 ) -> Option<usize>
-    ensures { IfSome result (λ n. (taken (G.answer grammar.now) kind trees.now ≡ Some n) × (n ≢ 0) × (trees.now ≢ empty)) }
+    ensures { IfSome result (λ n. (taken (G.answer grammar.now) kind trees.now ≡ Some n) × (n ≢ 0)
+        × (trees.now ≢ empty)) }
 {
     if trees.is_empty() {
         return None;
@@ -85,7 +86,8 @@ fn trees_of_round<G: FragmentGrammar>(
 // asked: for a longer fragment it would have to be asked again.
 #[inline(always)]
 fn is_single<G: FragmentGrammar>(grammar: &G, kind: MetaVarKind, trees: &TtIter<'_>) -> bool
-    ensures { result ≡ true → (trees.now ≢ empty) × (taken (G.answer grammar.now) kind trees.now ≡ Some 1) }
+    ensures { result ≡ true → (trees.now ≢ empty) × (taken (G.answer grammar.now) kind trees.now
+        ≡ Some 1) }
 {
     match kind {
         MetaVarKind::Tt | MetaVarKind::Ident | MetaVarKind::Literal => {
@@ -105,7 +107,8 @@ fn singles<'a, G: FragmentGrammar>(
     kind: MetaVarKind,
     trees: &TtIter<'a>,
 ) -> Option<(TokenTreesView<'a>, TtIter<'a>)>
-    ensures { IfSome result (λ r. AreSingle (G.answer grammar.now) kind trees.now (forest r.0) r.1) }
+    ensures { IfSome result (λ r. AreSingle (G.answer grammar.now) kind trees.now (forest r.0)
+        r.1) }
 {
     if !is_single(grammar, kind, trees) {
         return None;
@@ -122,7 +125,8 @@ impl<'a> Thread<'a> {
     // but for an end.
     #[inline(always)]
     fn lone_variable(&self) -> Option<(&'a Symbol, MetaVarKind)>
-        ensures { IfSome result (λ v. HasLone (items_of self.now.items.now) (frames_of self.now.frames) v.0.now v.1) }
+        ensures { IfSome result (λ v. HasLone (items_of self.now.items.now)
+            (frames_of self.now.frames) v.0.now v.1) }
     {
         if !self.items.is_empty() {
             return None;
@@ -153,7 +157,8 @@ impl<'a> Thread<'a> {
         kind: MetaVarKind,
         place: &mut Place<'a>,
     ) -> Result<bool, AllocError>
-        ensures passed { (ms : List r.Move) (s : r.State) → Goes (G.answer grammar.now) name.now kind ms s self.old place.old →
+        ensures passed { (ms : List r.Move) (s : r.State) → Goes (G.answer grammar.now) name.now
+            kind ms s self.old place.old →
             OnOk result (Goes (G.answer grammar.now) name.now kind ms s self.new place.new) }
         ensures fewer { IfOk result (λ some. IsFewer some (left_in place.new) (left_in place.old)) }
     {
@@ -175,7 +180,8 @@ impl<'a> Thread<'a> {
         kind: MetaVarKind,
         place: &mut Place<'a>,
     ) -> Result<bool, AllocError>
-        ensures passed { (ms : List r.Move) (s : r.State) → Goes (G.answer grammar.now) name.now kind ms s self.old place.old →
+        ensures passed { (ms : List r.Move) (s : r.State) → Goes (G.answer grammar.now) name.now
+            kind ms s self.old place.old →
             OnOk result (Goes (G.answer grammar.now) name.now kind ms s self.new place.new) }
         ensures fewer { IfOk result (λ some. IsFewer some (left_in place.new) (left_in place.old)) }
     {
@@ -196,7 +202,8 @@ impl<'a> Thread<'a> {
         grammar: &G,
         place: &mut Place<'a>,
     ) -> Result<(), AllocError>
-        ensures { OnOk result (Follows (G.answer grammar.now) (moves_of self.old.moves) (state_of self.old (place_of place.old))
+        ensures { OnOk result (Follows (G.answer grammar.now) (moves_of self.old.moves)
+            (state_of self.old (place_of place.old))
             (moves_of self.new.moves) (state_of self.new (place_of place.new))) }
     {
         let Some((name, kind)) = self.lone_variable() else {

@@ -53,7 +53,8 @@ impl LastCounts {
     // Gives the number this count, and hands over the one that it had.
     #[tactic(auto, unfolding(crate::specs::SeenStates::last_in))]
     fn insert(&mut self, number: usize, count: usize) -> Result<usize, AllocError>
-        ensures updates { OnOk result ((n : ℕ) → last_in self.new n ≡ (if nat_eq number n then count else last_in self.old n)) }
+        ensures updates { OnOk result ((n : ℕ) → last_in self.new n
+            ≡ (if nat_eq number n then count else last_in self.old n)) }
         ensures old { IfOk result (λ k. k ≡ last_in self.old number) }
     {
         let before = self.map.insert(number, count)?;
@@ -94,7 +95,8 @@ impl StateIndex {
 
     // Adds a number at the end of the list.
     fn push(&mut self, number: usize) -> Result<(), AllocError>
-        ensures { (numbers : List ℕ) → IsIndex self.old numbers → OnOk result (IsIndex self.new (numbers ++ (number ∷ []))) }
+        ensures { (numbers : List ℕ) → IsIndex self.old numbers →
+            OnOk result (IsIndex self.new (numbers ++ (number ∷ []))) }
     {
         let count = self.before.len() + 1;
         let before = self.last.insert(number, count)?;

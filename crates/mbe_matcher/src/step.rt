@@ -8,8 +8,11 @@ ghost use Rattle.mbe_matcher.specs.Paths.{when};
 ghost use Rattle.mbe_matcher.specs.Places.{place_of, place_after};
 ghost use Rattle.mbe_matcher.specs.Readings as r;
 ghost use Rattle.mbe_matcher.specs.Units as u;
-ghost use Rattle.mbe_matcher.specs.Threads.{state_of, frame_of, frames_in, frames_of, move_of, moves_of, made_of, given, extended, between_of, repetition_of, is_some_taken, is_trees};
-ghost use Rattle.mbe_matcher.specs.Steps.{is_unit_here, is_repetition, is_round, may_go_on, further};
+ghost use Rattle.mbe_matcher.specs.Threads.{state_of, frame_of, frames_in, frames_of, move_of};
+ghost use Rattle.mbe_matcher.specs.Threads.{moves_of, made_of, given, extended, between_of};
+ghost use Rattle.mbe_matcher.specs.Threads.{repetition_of, is_some_taken, is_trees};
+ghost use Rattle.mbe_matcher.specs.Steps.{is_unit_here, is_repetition, is_round, may_go_on};
+ghost use Rattle.mbe_matcher.specs.Steps.{further};
 ghost use Rattle.mbe_matcher.specs.declared.thread.Frame.TheVariants.{InRound};
 
 use crate::fragments::fragment_trees;
@@ -104,7 +107,8 @@ pub(crate) fn may_skip(kind: RepeatKind) -> bool
 // another iteration may follow.
 #[inline(always)]
 pub(crate) fn may_go_on<'a>(round: Round<'a>, place: &Place<'a>) -> bool
-    ensures { result ≡ may_go_on (between_of round.entry.separator) round.entry.kind (place_of place.now) }
+    ensures { result ≡ may_go_on (between_of round.entry.separator) round.entry.kind
+        (place_of place.now) }
 {
     match round.separator {
         Some(between) => place.is_between(between),
@@ -138,7 +142,13 @@ impl<'a> Thread<'a> {
         taken: Option<Consumed>,
     ) -> Result<Choice<'a>, AllocError>
         ensures { (p : u.Place) → IfOk result (λ c. made_of p c
-            ≡ (moves_of self.now.moves ++ (move_of made.entry ∷ []), is_some_taken taken, is_trees taken, r.at (items_of items.now) (frames_of frames.entry) (place_after p taken))) }
+            ≡ (
+              moves_of self.now.moves ++ (move_of made.entry ∷ []),
+              is_some_taken taken,
+              is_trees
+                  taken,
+              r.at (items_of items.now) (frames_of frames.entry) (place_after p taken),
+            )) }
     {
         let thread = self.moved(arena, items, frames, made)?;
         Ok(Choice { thread, taken })
@@ -154,7 +164,12 @@ impl<'a> Thread<'a> {
         frames: Option<&'a Rung<'a>>,
     ) -> Result<Option<Choice<'a>>, AllocError>
         ensures { (p : u.Place) → IfOk result (λ o. given p o
-            ≡ map (extended (moves_of self.now.moves)) (when is_here (r.unit_move, r.at (items_of items.now) (frames_of frames.entry) (u.after_unit p)))) }
+            ≡ map (extended (moves_of self.now.moves))
+            (when is_here (
+              r.unit_move,
+              r.at (items_of items.now) (frames_of frames.entry)
+                  (u.after_unit p),
+            ))) }
     {
         if !is_here {
             return Ok(None);
@@ -175,8 +190,12 @@ impl<'a> Thread<'a> {
         place: &Place<'a>,
     ) -> Result<Option<Choice<'a>>, AllocError>
         ensures { let p = place_of place.now in IfOk result (λ o. given p o
-            ≡ map (extended (moves_of self.now.moves)) (when (u.same_unit (u.opening kind) (u.unit_at p))
-            (r.unit_move, r.at (items_of inner.now) (r.in_group (items_of after.now) ∷ frames_of self.now.frames) (u.after_unit p)))) }
+            ≡ map (extended (moves_of self.now.moves))
+            (when (u.same_unit (u.opening kind) (u.unit_at p)) (
+              r.unit_move,
+              r.at (items_of inner.now) (r.in_group (items_of after.now)
+                  ∷ frames_of self.now.frames) (u.after_unit p),
+            ))) }
     {
         if !place.is_opening(kind) {
             return Ok(None);
@@ -198,8 +217,10 @@ impl<'a> Thread<'a> {
         place: &Place<'a>,
     ) -> Result<Option<Choice<'a>>, AllocError>
         ensures { let p = place_of place.now in IfOk result (λ o. given p o
-            ≡ map (extended (moves_of self.now.moves)) (r.fragment_moves variable.entry.name.now variable.entry.kind
-            (taken (G.answer grammar.now) variable.entry.kind (r.trees_here p)) (items_of items.now) (frames_of self.now.frames) p)) }
+            ≡ map (extended (moves_of self.now.moves)) (r.fragment_moves variable.entry.name.now
+            variable.entry.kind
+            (taken (G.answer grammar.now) variable.entry.kind (r.trees_here p)) (items_of items.now)
+            (frames_of self.now.frames) p)) }
     {
         let Variable { name, kind } = variable;
         match fragment_trees(grammar, kind, &place.rest) {
@@ -234,7 +255,8 @@ impl<'a> Thread<'a> {
         requires items { self.now.items.now ≡ op.now ∷ rest.now }
         requires single { is_repetition (items_of self.now.items.now) ≡ false }
         ensures { let p = place_of place.now in IfOk result (λ o. given p o
-            ≡ map (extended (moves_of self.now.moves)) (r.next (G.answer grammar.now) (state_of self.now p))) }
+            ≡ map (extended (moves_of self.now.moves)) (r.next (G.answer grammar.now)
+            (state_of self.now p))) }
     {
         match op {
             Op::Subtree { tokens, delimiter } => {
@@ -295,7 +317,11 @@ impl<'a> Thread<'a> {
     #[inline(always)]
     pub(crate) fn enter(&self, arena: &'a Bump, round: Round<'a>) -> Result<Choice<'a>, AllocError>
         ensures { (p : u.Place) → IfOk result (λ c. made_of p c
-            ≡ extended (moves_of self.now.moves) (r.enter, r.at (items_of round.entry.body.now) (frame_of (InRound round.entry) ∷ frames_of self.now.frames) p)) }
+            ≡ extended (moves_of self.now.moves) (
+              r.enter,
+              r.at (items_of round.entry.body.now)
+                  (frame_of (InRound round.entry) ∷ frames_of self.now.frames) p,
+            )) }
     {
         let inner = inside(arena, self.frames, Frame::InRound(round))?;
         let choice = self.choice(arena, round.body, inner, Move::Enter, None)?;
@@ -314,7 +340,8 @@ impl<'a> Thread<'a> {
         requires items { self.now.items.now ≡ [] }
         requires frames { frames_in self.now.frames ≡ InRound round ∷ frames_in around }
         ensures { (p : u.Place) → IfOk result (λ c. made_of p c ≡ extended (moves_of self.now.moves)
-            (further (items_of round.entry.body.now) (between_of round.entry.separator) round.entry.kind (items_of round.entry.after.now) (frames_of around.entry) p)) }
+            (further (items_of round.entry.body.now) (between_of round.entry.separator)
+            round.entry.kind (items_of round.entry.after.now) (frames_of around.entry) p)) }
     {
         match round.separator {
             Some(_) => {
@@ -405,7 +432,8 @@ impl<'a> Thread<'a> {
     ) -> Result<Choices<'a>, AllocError>
         ensures { let p = place_of place.now in
             IfOk result (λ cs. given p cs.0 ++ given p cs.1
-            ≡ map (extended (moves_of self.now.moves)) (r.next (G.answer grammar.now) (state_of self.now p))) }
+            ≡ map (extended (moves_of self.now.moves)) (r.next (G.answer grammar.now)
+            (state_of self.now p))) }
     {
         let Some((op, rest)) = self.items.split_first() else {
             let Some(rung) = self.frames else {

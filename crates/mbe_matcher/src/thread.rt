@@ -6,7 +6,8 @@ ghost use Rattle.mbe_rules.specs.Ops.{items_of};
 ghost use Rattle.mbe_matcher.specs.Numbers.{number_after, number_of};
 ghost use Rattle.mbe_matcher.specs.Places.{place_of};
 ghost use Rattle.mbe_matcher.specs.Readings as r;
-ghost use Rattle.mbe_matcher.specs.Threads.{state_of, frames_in, moves_of, move_of, rounds_of, steps};
+ghost use Rattle.mbe_matcher.specs.Threads.{state_of, frames_in, moves_of, move_of, rounds_of};
+ghost use Rattle.mbe_matcher.specs.Threads.{steps};
 ghost use Rattle.mbe_matcher.specs.Units as u;
 
 use crate::position::Place;
@@ -124,7 +125,8 @@ pub(crate) fn extended_by_round<'a>(
     before: Option<&'a Entry<'a>>,
     made: Move<'a>,
 ) -> Result<Option<&'a Entry<'a>>, AllocError>
-    ensures { IfOk result (λ e. moves_of e ≡ moves_of before.entry ++ (r.next_round ∷ move_of made.entry ∷ [])) }
+    ensures { IfOk result (λ e. moves_of e ≡ moves_of before.entry
+        ++ (r.next_round ∷ move_of made.entry ∷ [])) }
 {
     with_entry(arena, before, IterationStart::Round, made)
 }
@@ -138,7 +140,8 @@ pub(crate) fn extended_by_rounds<'a>(
     kind: MetaVarKind,
     trees: TokenTreesView<'a>,
 ) -> Result<Option<&'a Entry<'a>>, AllocError>
-    ensures { IfOk result (λ e. moves_of e ≡ moves_of before.entry ++ rounds_of name.now kind (forest trees.entry)) }
+    ensures { IfOk result (λ e. moves_of e ≡ moves_of before.entry ++ rounds_of name.now kind
+        (forest trees.entry)) }
 {
     let made = Move::Fragment { name, kind, trees };
     with_entry(arena, before, IterationStart::RoundForEach, made)
@@ -281,7 +284,8 @@ impl<'a> Thread<'a> {
     ) -> Result<Thread<'a>, AllocError>
         ensures items { IfOk result (λ t. t.items.now ≡ items.now) }
         ensures frames { IfOk result (λ t. frames_in t.frames ≡ frames_in frames.entry) }
-        ensures moves { IfOk result (λ t. moves_of t.moves ≡ moves_of self.now.moves ++ (move_of made.entry ∷ [])) }
+        ensures moves { IfOk result (λ t. moves_of t.moves ≡ moves_of self.now.moves
+            ++ (move_of made.entry ∷ [])) }
     {
         let moves = extended(arena, self.moves, made)?;
         Ok(Thread {

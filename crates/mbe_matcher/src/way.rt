@@ -7,7 +7,8 @@ ghost use Rattle.mbe_matcher.specs.Grammar.{Grammar};
 ghost use Rattle.mbe_matcher.specs.Places.{place_of};
 ghost use Rattle.mbe_matcher.specs.Readings as r;
 ghost use Rattle.mbe_matcher.specs.Settled.{IsGood, IsSound};
-ghost use Rattle.mbe_matcher.specs.Threads.{state_of, frames_in, moves_of, between_of, repetition_of};
+ghost use Rattle.mbe_matcher.specs.Threads.{state_of, frames_in, moves_of, between_of};
+ghost use Rattle.mbe_matcher.specs.Threads.{repetition_of};
 ghost use Rattle.mbe_matcher.specs.Steps.{further};
 ghost use Rattle.mbe_matcher.specs.Ways.{IsDead, IsOnly, IsWay, LeadsAlone};
 ghost use Rattle.mbe_matcher.specs.declared.thread.Frame.TheVariants.{InRound};
@@ -43,7 +44,9 @@ pub(crate) enum Alone<'a> {
 // Whether a repetition has no separator, and no move leads on from its next iteration here.
 #[inline(always)]
 fn is_over_again<'a>(round: Round<'a>, place: &Place<'a>) -> bool
-    ensures { result ≡ true → (fs : List r.Frame) → IsDead (further (items_of round.entry.body.now) (between_of round.entry.separator) round.entry.kind (items_of round.entry.after.now) fs (place_of place.now)) }
+    ensures { result ≡ true → (fs : List r.Frame) →
+        IsDead (further (items_of round.entry.body.now) (between_of round.entry.separator)
+        round.entry.kind (items_of round.entry.after.now) fs (place_of place.now)) }
 {
     match round.separator {
         Some(_) => false,
@@ -62,7 +65,8 @@ impl<'a> Thread<'a> {
         place: &Place<'a>,
     ) -> Result<Option<Choice<'a>>, AllocError>
         requires { items_of self.now.items.now ≡ repetition_of round }
-        ensures { (g : Grammar) → IfOk result (λ o. IfSome o (λ c. IsOnly g (place_of place.now) self.now c)) }
+        ensures { (g : Grammar) →
+            IfOk result (λ o. IfSome o (λ c. IsOnly g (place_of place.now) self.now c)) }
     {
         if may_skip(round.kind) && !is_over(round.after, self.frames, place) {
             if !is_over_at(round.body, place) {
@@ -87,7 +91,8 @@ impl<'a> Thread<'a> {
     ) -> Result<Option<Choice<'a>>, AllocError>
         requires items { self.now.items.now ≡ [] }
         requires frames { frames_in self.now.frames ≡ InRound round ∷ frames_in around }
-        ensures { (g : Grammar) → IfOk result (λ o. IfSome o (λ c. IsOnly g (place_of place.now) self.now c)) }
+        ensures { (g : Grammar) →
+            IfOk result (λ o. IfSome o (λ c. IsOnly g (place_of place.now) self.now c)) }
     {
         if !may_go_on(round, place) || is_over_again(round, place) {
             let left = self.choice(arena, round.after, around, Move::Leave, None)?;
@@ -112,7 +117,8 @@ impl<'a> Thread<'a> {
     ) -> Result<Option<Choice<'a>>, AllocError>
         requires items { self.now.items.now ≡ [] }
         requires frames { frames_in self.now.frames ≡ frame ∷ frames_in around }
-        ensures { (g : Grammar) → IfOk result (λ o. IfSome o (λ c. IsOnly g (place_of place.now) self.now c)) }
+        ensures { (g : Grammar) →
+            IfOk result (λ o. IfSome o (λ c. IsOnly g (place_of place.now) self.now c)) }
     {
         match frame {
             Frame::InRound(round) => {
@@ -134,7 +140,8 @@ impl<'a> Thread<'a> {
         grammar: &G,
         place: &Place<'a>,
     ) -> Result<Option<Choice<'a>>, AllocError>
-        ensures { IfOk result (λ o. IfSome o (λ c. IsOnly (G.answer grammar.now) (place_of place.now) self.now c)) }
+        ensures { IfOk result (λ o.
+            IfSome o (λ c. IsOnly (G.answer grammar.now) (place_of place.now) self.now c)) }
     {
         let Some((op, rest)) = self.items.split_first() else {
             let Some(rung) = self.frames else {
@@ -195,7 +202,8 @@ impl<'a> Thread<'a> {
         place: &mut Place<'a>,
     ) -> Result<Alone<'a>, AllocError>
         requires { (pattern : Items) × IsSound pattern (state_of self.now (place_of place.old)) }
-        ensures { IfOk result (λ a. LeadsAlone (G.answer grammar.now) (moves_of self.now.moves) (state_of self.now (place_of place.old)) (place_of place.new) a) }
+        ensures { IfOk result (λ a. LeadsAlone (G.answer grammar.now) (moves_of self.now.moves)
+            (state_of self.now (place_of place.old)) (place_of place.new) a) }
     {
         let mut now = *self;
         loop {

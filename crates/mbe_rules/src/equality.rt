@@ -5,7 +5,8 @@ ghost use Rattle.std.specs.Option.{option_eq};
 ghost use Rattle.mbe_rules.specs.Comparing.{pair_same, step_same, IsFewer, pair_count};
 ghost use Rattle.mbe_rules.specs.Counts.{count_of};
 ghost use Rattle.mbe_rules.specs.Equality as spec;
-ghost use Rattle.mbe_rules.specs.Equality.{heads_of, inside_of, no_more, same_names, same_leaves, same_head, same_heads, same_marks};
+ghost use Rattle.mbe_rules.specs.Equality.{heads_of, inside_of, no_more, same_names, same_leaves};
+ghost use Rattle.mbe_rules.specs.Equality.{same_head, same_heads, same_marks};
 ghost use Rattle.mbe_rules.specs.Items.{done};
 ghost use Rattle.mbe_rules.specs.Ops.{items_of, put_op};
 
@@ -157,7 +158,8 @@ fn delimiter_of(op: &Op) -> Option<Delimiter>
 
 // Whether two parts are equal, or both are missing.
 fn same_part<T: PartialEq>(first: Option<&T>, second: Option<&T>) -> bool
-    ensures { result ≡ option_eq T.eq (option_map (λ x. x.now) first.entry) (option_map (λ x. x.now) second.entry) }
+    ensures { result ≡ option_eq T.eq (option_map (λ x. x.now) first.entry)
+        (option_map (λ x. x.now) second.entry) }
 {
     match (first, second) {
         (Some(first), Some(second)) => first == second,

@@ -192,7 +192,8 @@ pub enum Op {
 impl Op {
     // The ops inside. What else the op owns is freed.
     fn into_inner(self) -> Option<Vec<Op>>
-        ensures fewer { IfSome result (λ v. count_of (put_op self done) ≡ suc (count_of (items_of v.items))) }
+        ensures fewer { IfSome result (λ v. count_of (put_op self done)
+            ≡ suc (count_of (items_of v.items))) }
         ensures flatter { IfSome result (λ v. most size-Op v.items < size-Op self) }
     {
         match self {

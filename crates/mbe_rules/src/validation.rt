@@ -3,7 +3,8 @@
 ghost use Rattle.std.specs.Prelude.{◌≡◌, ◌<◌, ◌&&◌, ◌++◌, ◌∷◌, true, false, [], IfOk, OnOk};
 ghost use Rattle.mbe_rules.specs.Items.{done, can_match_nothing, has_empty_round};
 ghost use Rattle.mbe_rules.specs.Ops.{put_op, items_of};
-ghost use Rattle.mbe_rules.specs.Walks.{is_plain, op_nothing, op_endless, whole_nothing, whole_endless, work};
+ghost use Rattle.mbe_rules.specs.Walks.{is_plain, op_nothing, op_endless, whole_nothing};
+ghost use Rattle.mbe_rules.specs.Walks.{whole_endless, work};
 
 use crate::parser::{MetaVarKind, Op, RepeatKind};
 use std::alloc::{AllocError, Global};
@@ -75,7 +76,8 @@ impl<'a> Walk<'a> {
     fn pass(&mut self, op: &'a Op, rest: &'a [Op])
         requires { is_plain (put_op op.now done) ≡ true }
         ensures plain { is_plain (put_op op.now done) ≡ true }
-        ensures nothing { self.new.nothing ≡ (self.old.nothing && can_match_nothing (put_op op.now done)) }
+        ensures nothing { self.new.nothing
+            ≡ (self.old.nothing && can_match_nothing (put_op op.now done)) }
         ensures rest { self.new.rest ≡ rest.entry }
         ensures around { self.new.around ≡ self.old.around }
         ensures endless { self.new.endless ≡ self.old.endless }
@@ -88,7 +90,8 @@ impl<'a> Walk<'a> {
     fn enter(&mut self, inside: Inside, inner: &'a [Op], rest: &'a [Op]) -> Result<(), AllocError>
         ensures nothing { OnOk result (self.new.nothing ≡ true) }
         ensures rest { OnOk result (self.new.rest ≡ inner.entry) }
-        ensures around { OnOk result (self.new.around.items ≡ self.old.around.items ++ (record { nothing = self.old.nothing; inside = inside; rest = rest.entry } ∷ [])) }
+        ensures around { OnOk result (self.new.around.items ≡ self.old.around.items
+            ++ (record { nothing = self.old.nothing; inside = inside; rest = rest.entry } ∷ [])) }
         ensures endless { OnOk result (self.new.endless ≡ self.old.endless) }
     {
         self.around.push(Outer {
@@ -124,8 +127,10 @@ impl<'a> Walk<'a> {
         ensures nothing { IfOk result (λ more. whole_nothing self.new ≡ whole_nothing self.old) }
         ensures endless { IfOk result (λ more. whole_endless self.new ≡ whole_endless self.old) }
         ensures fewer { IfOk result (λ more. more ≡ true → work self.new < work self.old) }
-        ensures last_nothing { IfOk result (λ more. more ≡ false → whole_nothing self.new ≡ self.new.nothing) }
-        ensures last_endless { IfOk result (λ more. more ≡ false → whole_endless self.new ≡ self.new.endless) }
+        ensures last_nothing { IfOk result (λ more. more ≡ false → whole_nothing self.new
+            ≡ self.new.nothing) }
+        ensures last_endless { IfOk result (λ more. more ≡ false → whole_endless self.new
+            ≡ self.new.endless) }
     {
         let Some((op, rest)) = self.rest.split_first() else {
             return Ok(self.leave());

@@ -1,5 +1,6 @@
 //! A value that may have an error beside it.
-ghost use Rattle.std.specs.Prelude.{◌≡◌, None, Some, Ok, Err, IfOk, IsOk, IsOkUnless, IsSomeAnd, MatchOption, MatchResult};
+ghost use Rattle.std.specs.Prelude.{◌≡◌, None, Some, Ok, Err, IfOk, IsOk, IsOkUnless, IsSomeAnd};
+ghost use Rattle.std.specs.Prelude.{MatchOption, MatchResult};
 ghost use Rattle.std.specs.Option.{ForSome};
 ghost use Rattle.mbe_rules.specs.Clones.{ClonesAlike};
 ghost use Rattle.symbols.specs.declared.fault.TtFault.TheVariants as fault;
@@ -75,7 +76,8 @@ impl<T, E> ValueResult<T, E> {
     pub fn map_err<E2, F: FnOnce(E) -> E2>(self, f: F) -> ValueResult<T, E2>
         requires { ForSome self.err (F.pre f) }
         ensures value { result.value ≡ self.value }
-        ensures err { MatchOption self.err (result.err ≡ None) (λ e. IsSomeAnd result.err (F.post f e)) }
+        ensures err { MatchOption self.err (result.err ≡ None) (λ e.
+            IsSomeAnd result.err (F.post f e)) }
     {
         ValueResult {
             value: self.value,
@@ -130,7 +132,8 @@ impl<T, E> ValueResult<T, E> {
         requires err { ForSome self.now.err (ClonesAlike E.is_clone) }
         ensures same { IfOk result (λ r. r ≡ self.now) }
         ensures memory { IsOkUnless result fault.Memory }
-        ensures answered { T.is_infallible self.now.value → ForSome self.now.err E.is_infallible → IsOk result }
+        ensures answered { T.is_infallible self.now.value → ForSome self.now.err E.is_infallible →
+            IsOk result }
     {
         let value = self.value.clone()?;
         let err = self.err.clone()?;

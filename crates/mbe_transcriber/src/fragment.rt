@@ -6,7 +6,8 @@ ghost use Rattle.tt_data.specs.declared.span.Span.{Span};
 ghost use Rattle.mbe_rules.specs.declared.parser.MetaVarKind.{MetaVarKind};
 ghost use Rattle.tt.specs.Building.{extended, is_invisible, last_alone};
 ghost use Rattle.tt.specs.Views.{forest};
-ghost use Rattle.mbe_transcriber.specs.Filling.{stands_alone, in_parentheses, begins_generics, punct_at, colons, with_colons, put_in};
+ghost use Rattle.mbe_transcriber.specs.Filling.{stands_alone, in_parentheses, begins_generics};
+ghost use Rattle.mbe_transcriber.specs.Filling.{punct_at, colons, with_colons, put_in};
 ghost use Rattle.mbe_transcriber.specs.Room.{IsWantOfRoom, LacksRoom};
 ghost use Rattle.mbe_transcriber.specs.Putting.{begins_ident, before_more};
 
@@ -50,8 +51,10 @@ fn stands_alone(trees: TokenTreesView<'_>) -> bool
 // Appends trees. If the last is a punct it is made `Alone`.
 fn put_alone(out: &mut TopSubtreeBuilder, trees: TokenTreesView<'_>) -> Result<(), TtFault>
     ensures faults { IfErr result IsWantOfRoom }
-    ensures added { OnOk result (out.new.tree ≡ extended out.old.tree (last_alone (forest trees.entry))) }
-    ensures tokens { result ≡ Err TtFault.Tokens → LacksRoom out.old.tree (last_alone (forest trees.entry)) }
+    ensures added { OnOk result (out.new.tree
+        ≡ extended out.old.tree (last_alone (forest trees.entry))) }
+    ensures tokens { result ≡ Err TtFault.Tokens →
+        LacksRoom out.old.tree (last_alone (forest trees.entry)) }
 {
     out.extend_with_tt_alone(trees)
 }
@@ -63,8 +66,10 @@ fn put_expression(
     span: Span,
 ) -> Result<(), TtFault>
     ensures faults { IfErr result IsWantOfRoom }
-    ensures added { OnOk result (out.new.tree ≡ extended out.old.tree (in_parentheses span (forest trees.entry))) }
-    ensures tokens { result ≡ Err TtFault.Tokens → LacksRoom out.old.tree (in_parentheses span (forest trees.entry)) }
+    ensures added { OnOk result (out.new.tree
+        ≡ extended out.old.tree (in_parentheses span (forest trees.entry))) }
+    ensures tokens { result ≡ Err TtFault.Tokens →
+        LacksRoom out.old.tree (in_parentheses span (forest trees.entry)) }
 {
     if stands_alone(trees) {
         return put_alone(out, trees);
@@ -131,8 +136,10 @@ fn put_next(
     span: Span,
 ) -> Result<(), TtFault>
     ensures faults { IfErr result IsWantOfRoom }
-    ensures added { OnOk result (out.new.tree ≡ extended out.old.tree (before_more span (forest tree.entry) rest.now)) }
-    ensures tokens { result ≡ Err TtFault.Tokens → LacksRoom out.old.tree (before_more span (forest tree.entry) rest.now) }
+    ensures added { OnOk result (out.new.tree
+        ≡ extended out.old.tree (before_more span (forest tree.entry) rest.now)) }
+    ensures tokens { result ≡ Err TtFault.Tokens →
+        LacksRoom out.old.tree (before_more span (forest tree.entry) rest.now) }
 {
     out.extend_with_tt(tree)?;
     if has_colons(tree, rest) {
@@ -148,8 +155,10 @@ fn put_path(
     span: Span,
 ) -> Result<(), TtFault>
     ensures faults { IfErr result IsWantOfRoom }
-    ensures added { OnOk result (out.new.tree ≡ extended out.old.tree (with_colons span (forest trees.entry))) }
-    ensures tokens { result ≡ Err TtFault.Tokens → LacksRoom out.old.tree (with_colons span (forest trees.entry)) }
+    ensures added { OnOk result (out.new.tree
+        ≡ extended out.old.tree (with_colons span (forest trees.entry))) }
+    ensures tokens { result ≡ Err TtFault.Tokens →
+        LacksRoom out.old.tree (with_colons span (forest trees.entry)) }
 {
     let mut rest = trees.iter();
     while let Some(tree) = rest.next_as_view() {
@@ -162,7 +171,8 @@ fn put_path(
 // a metavariable of any kind.
 #[tactic(auto, using(crate::proofs::PuttingLemmas::a_word_put, crate::proofs::PuttingLemmas::a_literal_put))]
 fn lone_leaf<'a>(trees: TokenTreesView<'a>) -> Option<LeafRef<'a>>
-    ensures { (span : Span) (kind : MetaVarKind) → IfSome result (λ l. put_in span kind (forest trees.entry) ≡ leaf (leaf_lent l) empty) }
+    ensures { (span : Span) (kind : MetaVarKind) →
+        IfSome result (λ l. put_in span kind (forest trees.entry) ≡ leaf (leaf_lent l) empty) }
 {
     let Some((first, rest)) = trees.iter().lent_leaf() else {
         return None;
@@ -185,8 +195,10 @@ pub fn put_in(
     span: Span,
 ) -> Result<(), TtFault>
     ensures faults { IfErr result IsWantOfRoom }
-    ensures added { OnOk result (out.new.tree ≡ extended out.old.tree (put_in span kind (forest trees.entry))) }
-    ensures tokens { result ≡ Err TtFault.Tokens → LacksRoom out.old.tree (put_in span kind (forest trees.entry)) }
+    ensures added { OnOk result (out.new.tree
+        ≡ extended out.old.tree (put_in span kind (forest trees.entry))) }
+    ensures tokens { result ≡ Err TtFault.Tokens →
+        LacksRoom out.old.tree (put_in span kind (forest trees.entry)) }
 {
     if let Some(leaf) = lone_leaf(trees) {
         return out.push(leaf.to_leaf());

@@ -10,7 +10,8 @@ ghost use Rattle.mbe_rules.specs.Ops.{put_op, separator_of};
 ghost use Rattle.mbe_rules.specs.Relabelling.{punct_with};
 ghost use Rattle.mbe_matcher.specs.Bound.{map_of};
 ghost use Rattle.mbe_transcriber.specs.Filling.{punct_leaves, separator_leaves};
-ghost use Rattle.mbe_transcriber.specs.Given.{Fills, IsBurstBy, dollar_gives, dollar_place, first_gives, first_puts_out, is_plain, plain_gives};
+ghost use Rattle.mbe_transcriber.specs.Given.{Fills, IsBurstBy, dollar_gives, dollar_place};
+ghost use Rattle.mbe_transcriber.specs.Given.{first_gives, first_puts_out, is_plain, plain_gives};
 ghost use Rattle.mbe_transcriber.specs.Markers.{IsMarkedBy};
 ghost use Rattle.mbe_transcriber.specs.Output.{size_of};
 ghost use Rattle.mbe_transcriber.specs.Room.{IsWantOfRoom, LacksRoom};
@@ -26,7 +27,8 @@ use tt::{Ident, Leaf, Literal, Punct, Span, TopSubtreeBuilder, TtFault};
 fn put_puncts(out: &mut TopSubtreeBuilder, puncts: &[Punct]) -> Result<(), TtFault>
     ensures faults { IfErr result IsWantOfRoom }
     ensures added { OnOk result (out.new.tree ≡ extended out.old.tree (punct_leaves puncts.now)) }
-    ensures tokens { result ≡ Err TtFault.Tokens → LacksRoom out.old.tree (punct_leaves puncts.now) }
+    ensures tokens { result ≡ Err TtFault.Tokens →
+        LacksRoom out.old.tree (punct_leaves puncts.now) }
 {
     for punct in puncts {
         out.push(Leaf::Punct(*punct))?;
@@ -37,8 +39,10 @@ fn put_puncts(out: &mut TopSubtreeBuilder, puncts: &[Punct]) -> Result<(), TtFau
 // Appends a quote and its name as they are.
 fn put_lifetime(out: &mut TopSubtreeBuilder, quote: Punct, name: Ident) -> Result<(), TtFault>
     ensures faults { IfErr result IsWantOfRoom }
-    ensures added { OnOk result (out.new.tree ≡ extended out.old.tree (leaf (as_leaf.Punct quote) (leaf (as_leaf.Ident name) empty))) }
-    ensures tokens { result ≡ Err TtFault.Tokens → LacksRoom out.old.tree (leaf (as_leaf.Punct quote) (leaf (as_leaf.Ident name) empty)) }
+    ensures added { OnOk result (out.new.tree
+        ≡ extended out.old.tree (leaf (as_leaf.Punct quote) (leaf (as_leaf.Ident name) empty))) }
+    ensures tokens { result ≡ Err TtFault.Tokens →
+        LacksRoom out.old.tree (leaf (as_leaf.Punct quote) (leaf (as_leaf.Ident name) empty)) }
 {
     out.push(Leaf::Punct(quote))?;
     out.push(Leaf::Ident(name))
@@ -51,8 +55,12 @@ pub(crate) fn put_separator(
     separator: Option<&Separator>,
 ) -> Result<(), TtFault>
     ensures faults { IfErr result IsWantOfRoom }
-    ensures added { OnOk result (out.new.tree ≡ extended out.old.tree (separator_leaves (option_map (λ s. separator_of s.now) separator.entry))) }
-    ensures tokens { result ≡ Err TtFault.Tokens → LacksRoom out.old.tree (separator_leaves (option_map (λ s. separator_of s.now) separator.entry)) }
+    ensures added { OnOk result (out.new.tree
+        ≡ extended out.old.tree (separator_leaves (option_map (λ s. separator_of s.now)
+        separator.entry))) }
+    ensures tokens { result ≡ Err TtFault.Tokens →
+        LacksRoom out.old.tree (separator_leaves (option_map (λ s. separator_of s.now)
+        separator.entry)) }
 {
     match separator {
         None => Ok(()),
@@ -80,7 +88,8 @@ fn put_marked_puncts<M: Fn(Span) -> Span>(
     requires { M.IsAlwaysCallable marker.now }
     ensures faults { IfErr result IsWantOfRoom }
     ensures filled { (mark : Span → Span) → IsMarkedBy (M.post marker.now) mark →
-        Fills result out.old.tree out.new.tree (Some (punct_leaves (map (punct_with mark) puncts.now))) }
+        Fills result out.old.tree out.new.tree
+        (Some (punct_leaves (map (punct_with mark) puncts.now))) }
     ensures tokens { (mark : Span → Span) → IsMarkedBy (M.post marker.now) mark →
         IsBurstBy result out.old.tree (size (punct_leaves (map (punct_with mark) puncts.now))) }
 {
@@ -101,7 +110,8 @@ fn put_ident<M: Fn(Span) -> Span>(
     requires { M.IsAlwaysCallable marker.now }
     ensures faults { IfErr result IsWantOfRoom }
     ensures filled { (mark : Span → Span) → IsMarkedBy (M.post marker.now) mark →
-        Fills result out.old.tree out.new.tree (Some (leaf (leaf_with mark (as_leaf.Ident ident.now)) empty)) }
+        Fills result out.old.tree out.new.tree
+        (Some (leaf (leaf_with mark (as_leaf.Ident ident.now)) empty)) }
     ensures tokens { IsBurstBy result out.old.tree 1 }
 {
     let sym = ident.sym.clone()?;
@@ -119,7 +129,8 @@ fn put_literal<M: Fn(Span) -> Span>(
     requires { M.IsAlwaysCallable marker.now }
     ensures faults { IfErr result IsWantOfRoom }
     ensures filled { (mark : Span → Span) → IsMarkedBy (M.post marker.now) mark →
-        Fills result out.old.tree out.new.tree (Some (leaf (leaf_with mark (as_leaf.Literal literal.now)) empty)) }
+        Fills result out.old.tree out.new.tree
+        (Some (leaf (leaf_with mark (as_leaf.Literal literal.now)) empty)) }
     ensures tokens { IsBurstBy result out.old.tree 1 }
 {
     let span = marked(marker, literal.span());
@@ -136,7 +147,9 @@ fn put_marked_lifetime<M: Fn(Span) -> Span>(
     requires { M.IsAlwaysCallable marker.now }
     ensures faults { IfErr result IsWantOfRoom }
     ensures filled { (mark : Span → Span) → IsMarkedBy (M.post marker.now) mark →
-        Fills result out.old.tree out.new.tree (Some (leaf (leaf_with mark (as_leaf.Punct quote)) (leaf (leaf_with mark (as_leaf.Ident name.now)) empty))) }
+        Fills result out.old.tree out.new.tree
+        (Some (leaf (leaf_with mark (as_leaf.Punct quote))
+        (leaf (leaf_with mark (as_leaf.Ident name.now)) empty))) }
     ensures tokens { IsBurstBy result out.old.tree 2 }
 {
     let span = marked(marker, quote.span);
@@ -153,8 +166,11 @@ fn put_dollar(
     span: Span,
 ) -> Result<bool, TtFault>
     ensures faults { IfErr result IsWantOfRoom }
-    ensures filled { (mark : Span → Span) → Fills result out.old.tree out.new.tree (dollar_gives mark (map_of bindings.now) rounds.now (put_op op.now done) span) }
-    ensures tokens { (mark : Span → Span) → IsBurstBy result out.old.tree (size_of (dollar_gives mark (map_of bindings.now) rounds.now (put_op op.now done) span)) }
+    ensures filled { (mark : Span → Span) → Fills result out.old.tree out.new.tree
+        (dollar_gives mark (map_of bindings.now) rounds.now (put_op op.now done) span) }
+    ensures tokens { (mark : Span → Span) →
+        IsBurstBy result out.old.tree (size_of (dollar_gives mark (map_of bindings.now) rounds.now
+        (put_op op.now done) span)) }
 {
     let alloc = bindings.allocator();
     match op {
@@ -194,9 +210,11 @@ fn put_item<M: Fn(Span) -> Span>(
     requires { M.IsAlwaysCallable marker.now }
     ensures faults { IfErr result IsWantOfRoom }
     ensures filled { (mark : Span → Span) → IsMarkedBy (M.post marker.now) mark →
-        Fills result out.old.tree out.new.tree (plain_gives mark (map_of bindings.now) rounds.now (put_op op.now done)) }
+        Fills result out.old.tree out.new.tree (plain_gives mark (map_of bindings.now) rounds.now
+        (put_op op.now done)) }
     ensures tokens { (mark : Span → Span) → IsMarkedBy (M.post marker.now) mark →
-        IsBurstBy result out.old.tree (size_of (plain_gives mark (map_of bindings.now) rounds.now (put_op op.now done))) }
+        IsBurstBy result out.old.tree (size_of (plain_gives mark (map_of bindings.now) rounds.now
+        (put_op op.now done))) }
 {
     if let Some(place) = dollar_place(op) {
         return put_dollar(out, op, bindings, rounds, marked(marker, place));
@@ -222,9 +240,11 @@ pub(crate) fn put_plain<M: Fn(Span) -> Span>(
     requires plain { is_plain (put_op op.now done) ≡ true }
     ensures faults { IfErr result IsWantOfRoom }
     ensures filled { (mark : Span → Span) → IsMarkedBy (M.post marker.now) mark →
-        Fills result out.old.tree out.new.tree (first_gives mark (map_of bindings.now) rounds.now (put_op op.now done)) }
+        Fills result out.old.tree out.new.tree (first_gives mark (map_of bindings.now) rounds.now
+        (put_op op.now done)) }
     ensures tokens { (mark : Span → Span) → IsMarkedBy (M.post marker.now) mark →
-        IsBurstBy result out.old.tree (first_puts_out mark (map_of bindings.now) rounds.now (put_op op.now done)) }
+        IsBurstBy result out.old.tree (first_puts_out mark (map_of bindings.now) rounds.now
+        (put_op op.now done)) }
 {
     put_item(out, op, bindings, marker, rounds)
 }

@@ -1,5 +1,7 @@
 //! Transcribes metavariables and metavariable expressions, `${..}`.
-ghost use Rattle.std.specs.Prelude.{◌≡◌, ◌+◌, length, ◌++◌, ◌∷◌, [], true, false, reverse, map, Some, None, Ok, Err, IfOk, IfErr, OnOk, option_map, option_and_then, string_bytes};
+ghost use Rattle.std.specs.Prelude.{◌≡◌, ◌+◌, length, ◌++◌, ◌∷◌, [], true, false, reverse, map};
+ghost use Rattle.std.specs.Prelude.{Some, None, Ok, Err, IfOk, IfErr, OnOk, option_map};
+ghost use Rattle.std.specs.Prelude.{option_and_then, string_bytes};
 ghost use Rattle.tt.specs.Building.{extended};
 ghost use Rattle.tt.specs.Views.{forest};
 ghost use Rattle.tt_data.specs.Forest.{empty, leaf, size};
@@ -12,7 +14,10 @@ ghost use Rattle.mbe_matcher.specs.Bindings.{Map, binding_of};
 ghost use Rattle.mbe_matcher.specs.Bound.{map_of, standing_for};
 ghost use Rattle.mbe_matcher.specs.Counts.{count_of};
 ghost use Rattle.mbe_transcriber.specs.Counting.{left_sum, amount_of, IsFewer};
-ghost use Rattle.mbe_transcriber.specs.Filling.{count_in, dollar_in, fragment_in, identifier, ignored, integer, joined_text, number_at, put_in, rawness_of, reserved_words, text_in, text_of_value, unbound, value_in, variable_in};
+ghost use Rattle.mbe_transcriber.specs.Filling.{count_in, dollar_in, fragment_in, identifier};
+ghost use Rattle.mbe_transcriber.specs.Filling.{ignored, integer, joined_text, number_at, put_in};
+ghost use Rattle.mbe_transcriber.specs.Filling.{rawness_of, reserved_words, text_in, text_of_value};
+ghost use Rattle.mbe_transcriber.specs.Filling.{unbound, value_in, variable_in};
 ghost use Rattle.mbe_transcriber.specs.Limits.{most_rounds};
 ghost use Rattle.mbe_transcriber.specs.Given.{Fills, IsBurstBy};
 ghost use Rattle.mbe_transcriber.specs.Markers.{is_name};
@@ -55,7 +60,8 @@ pub(crate) fn put_leaf(out: &mut TopSubtreeBuilder, token: Leaf) -> Result<bool,
 // Appends `$` and a name without a binding.
 fn put_unbound(out: &mut TopSubtreeBuilder, name: &Symbol, span: Span) -> Result<bool, TtFault>
     ensures faults { IfErr result IsWantOfRoom }
-    ensures filled { (mark : Span → Span) (bound : Map) → Fills result out.old.tree out.new.tree (Some (unbound is_name most_rounds mark bound name.now span)) }
+    ensures filled { (mark : Span → Span) (bound : Map) → Fills result out.old.tree out.new.tree
+        (Some (unbound is_name most_rounds mark bound name.now span)) }
     ensures tokens { IsBurstBy result out.old.tree 2 }
 {
     let sym = name.clone()?;
@@ -82,7 +88,8 @@ fn put_fragment(
     span: Span,
 ) -> Result<bool, TtFault>
     ensures faults { IfErr result IsWantOfRoom }
-    ensures filled { Fills result out.old.tree out.new.tree (Some (put_in span kind (forest trees.entry))) }
+    ensures filled { Fills result out.old.tree out.new.tree
+        (Some (put_in span kind (forest trees.entry))) }
     ensures tokens { IsBurstBy result out.old.tree (size (put_in span kind (forest trees.entry))) }
 {
     put_in(out, kind, trees, span)?;
@@ -97,9 +104,11 @@ pub(crate) fn put_value(
 ) -> Result<bool, TtFault>
     ensures faults { IfErr result IsWantOfRoom }
     ensures filled { (mark : Span → Span) (bound : Map) →
-        Fills result out.old.tree out.new.tree (fragment_in is_name most_rounds mark bound span (option_map (λ b. standing_for b.now) value.entry)) }
+        Fills result out.old.tree out.new.tree (fragment_in is_name most_rounds mark bound span
+        (option_map (λ b. standing_for b.now) value.entry)) }
     ensures tokens { (mark : Span → Span) (bound : Map) →
-        IsBurstBy result out.old.tree (size_of (fragment_in is_name most_rounds mark bound span (option_map (λ b. standing_for b.now) value.entry))) }
+        IsBurstBy result out.old.tree (size_of (fragment_in is_name most_rounds mark bound span
+        (option_map (λ b. standing_for b.now) value.entry))) }
 {
     match value {
         Some(Binding::Fragment { kind, trees }) => put_fragment(out, *kind, *trees, span),
@@ -117,9 +126,11 @@ pub(crate) fn put_variable(
 ) -> Result<bool, TtFault>
     ensures faults { IfErr result IsWantOfRoom }
     ensures filled { (mark : Span → Span) → Fills result out.old.tree out.new.tree
-        (variable_in is_name most_rounds mark (map_of bindings.now) rounds.now name.now span (binding_of name.now (map_of bindings.now))) }
+        (variable_in is_name most_rounds mark (map_of bindings.now) rounds.now name.now span
+        (binding_of name.now (map_of bindings.now))) }
     ensures tokens { (mark : Span → Span) → IsBurstBy result out.old.tree
-        (size_of (variable_in is_name most_rounds mark (map_of bindings.now) rounds.now name.now span (binding_of name.now (map_of bindings.now)))) }
+        (size_of (variable_in is_name most_rounds mark (map_of bindings.now) rounds.now name.now
+        span (binding_of name.now (map_of bindings.now)))) }
 {
     match bindings.get(name) {
         Some(binding) => put_value(out, value_in(binding, rounds), span),
@@ -238,9 +249,11 @@ pub(crate) fn put_count(
 ) -> Result<bool, TtFault>
     ensures faults { IfErr result IsWantOfRoom }
     ensures filled { Fills result out.old.tree out.new.tree
-        (option_map (λ b. integer (count_in depth b) span) (option_and_then (value_in rounds.now) (binding_of name.now (map_of bindings.now)))) }
+        (option_map (λ b. integer (count_in depth b) span) (option_and_then (value_in rounds.now)
+        (binding_of name.now (map_of bindings.now)))) }
     ensures tokens { IsBurstBy result out.old.tree
-        (size_of (option_map (λ b. integer (count_in depth b) span) (option_and_then (value_in rounds.now) (binding_of name.now (map_of bindings.now))))) }
+        (size_of (option_map (λ b. integer (count_in depth b) span)
+        (option_and_then (value_in rounds.now) (binding_of name.now (map_of bindings.now))))) }
 {
     match value_here(name, bindings, rounds) {
         Some(binding) => {
@@ -273,7 +286,8 @@ pub(crate) fn number_at(depth: usize, rounds: &[usize]) -> usize
 /// Whether a name has a fragment here, as `${ignore(..)}` needs.
 pub(crate) fn is_ignored(name: &Symbol, bindings: &Bindings<'_>, rounds: &[usize]) -> bool
     ensures { (mark : Span → Span) → elim result [ true ↦ Some empty | false ↦ None ]
-        ≡ ignored is_name most_rounds mark (map_of bindings.now) (option_and_then (value_in rounds.now) (binding_of name.now (map_of bindings.now))) }
+        ≡ ignored is_name most_rounds mark (map_of bindings.now)
+        (option_and_then (value_in rounds.now) (binding_of name.now (map_of bindings.now))) }
 {
     matches!(
         value_here(name, bindings, rounds),
@@ -305,7 +319,8 @@ fn append_text(text: &mut String, trees: TokenTreesView<'_>) -> Result<bool, All
 // none.
 fn append_value(text: &mut String, value: Option<&Binding<'_>>) -> Result<bool, AllocError>
     ensures { IfOk result (λ b. elim b [ true ↦ Some (string_bytes text.new) | false ↦ None ]
-        ≡ option_map (λ t. string_bytes text.old ++ t) (text_of_value (option_map (λ b. standing_for b.now) value.entry))) }
+        ≡ option_map (λ t. string_bytes text.old ++ t)
+        (text_of_value (option_map (λ b. standing_for b.now) value.entry))) }
 {
     let Some(Binding::Fragment { kind, trees }) = value else {
         return Ok(false);
@@ -323,8 +338,10 @@ fn append_part(
     bindings: &Bindings<'_>,
     rounds: &[usize],
 ) -> Result<bool, AllocError>
-    ensures { (mark : Span → Span) → IfOk result (λ b. elim b [ true ↦ Some (string_bytes text.new) | false ↦ None ]
-        ≡ option_map (λ t. string_bytes text.old ++ t) (joined_text is_name most_rounds mark (map_of bindings.now) rounds.now (part_of part.now ∷ []))) }
+    ensures { (mark : Span → Span) →
+        IfOk result (λ b. elim b [ true ↦ Some (string_bytes text.new) | false ↦ None ]
+        ≡ option_map (λ t. string_bytes text.old ++ t) (joined_text is_name most_rounds mark
+        (map_of bindings.now) rounds.now (part_of part.now ∷ []))) }
 {
     match part {
         ConcatElement::Text(itself) => {
@@ -342,7 +359,8 @@ fn joined_text(
     rounds: &[usize],
 ) -> Result<Option<String>, AllocError>
     ensures { (mark : Span → Span) → IfOk result (λ o. option_map string_bytes o
-        ≡ joined_text is_name most_rounds mark (map_of bindings.now) rounds.now (map part_of parts.now)) }
+        ≡ joined_text is_name most_rounds mark (map_of bindings.now) rounds.now
+        (map part_of parts.now)) }
 {
     let mut text = String::new(bindings.allocator());
     for part in parts {
@@ -385,8 +403,11 @@ fn put_name(
     span: Span,
 ) -> Result<bool, TtFault>
     ensures faults { IfErr result IsWantOfRoom }
-    ensures filled { (mark : Span → Span) (bound : Map) → Fills result out.old.tree out.new.tree (identifier is_name most_rounds mark bound span text.now) }
-    ensures tokens { (mark : Span → Span) (bound : Map) → IsBurstBy result out.old.tree (size_of (identifier is_name most_rounds mark bound span text.now)) }
+    ensures filled { (mark : Span → Span) (bound : Map) → Fills result out.old.tree out.new.tree
+        (identifier is_name most_rounds mark bound span text.now) }
+    ensures tokens { (mark : Span → Span) (bound : Map) →
+        IsBurstBy result out.old.tree (size_of (identifier is_name most_rounds mark bound span
+        text.now)) }
 {
     if !is_ident(text) {
         return Ok(false);
@@ -406,9 +427,11 @@ pub(crate) fn put_concat(
 ) -> Result<bool, TtFault>
     ensures faults { IfErr result IsWantOfRoom }
     ensures filled { (mark : Span → Span) → Fills result out.old.tree out.new.tree
-        (dollar_in is_name most_rounds mark (map_of bindings.now) rounds.now (items.concat_of (map part_of parts.now)) span) }
+        (dollar_in is_name most_rounds mark (map_of bindings.now) rounds.now
+        (items.concat_of (map part_of parts.now)) span) }
     ensures tokens { (mark : Span → Span) → IsBurstBy result out.old.tree
-        (size_of (dollar_in is_name most_rounds mark (map_of bindings.now) rounds.now (items.concat_of (map part_of parts.now)) span)) }
+        (size_of (dollar_in is_name most_rounds mark (map_of bindings.now) rounds.now
+        (items.concat_of (map part_of parts.now)) span)) }
 {
     match joined_text(parts, bindings, rounds)? {
         Some(text) => put_name(bindings.allocator(), out, &text, span),

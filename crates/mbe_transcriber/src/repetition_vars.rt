@@ -1,6 +1,7 @@
 //! Decides how many iterations of a repetition take place, by the values of the metavariables in
 //! its body.
-ghost use Rattle.std.specs.Prelude.{◌≡◌, ◌≤◌, ℕ, true, ◌++◌, ◌∷◌, [], Some, IfOk, map, nat_lt, option_map, option_and_then};
+ghost use Rattle.std.specs.Prelude.{◌≡◌, ◌≤◌, ℕ, true, ◌++◌, ◌∷◌, [], Some, IfOk, map, nat_lt};
+ghost use Rattle.std.specs.Prelude.{option_map, option_and_then};
 ghost use Rattle.mbe_rules.specs.Items.{done};
 ghost use Rattle.mbe_rules.specs.Ops.{items_of, part_of, put_op};
 ghost use Rattle.mbe_matcher.specs.Bindings.{binding_of, value_at};
@@ -31,7 +32,8 @@ pub(crate) fn member<'b, 'a>(values: &'b [Binding<'a>], number: usize) -> Option
 // The value of a binding in the iteration of this index.
 #[inline]
 fn value_in_one<'b, 'a>(binding: &'b Binding<'a>, number: usize) -> Option<&'b Binding<'a>>
-    ensures { option_map (λ b. standing_for b.now) result ≡ value_in (number ∷ []) (standing_for binding.now) }
+    ensures { option_map (λ b. standing_for b.now) result
+        ≡ value_in (number ∷ []) (standing_for binding.now) }
 {
     match binding {
         Binding::Fragment { .. } => Some(binding),
@@ -43,7 +45,8 @@ fn value_in_one<'b, 'a>(binding: &'b Binding<'a>, number: usize) -> Option<&'b B
 // The value of a value, if there is one, in the iteration of this index.
 #[inline]
 fn value_then<'b, 'a>(value: Option<&'b Binding<'a>>, number: usize) -> Option<&'b Binding<'a>>
-    ensures { option_map (λ b. standing_for b.now) result ≡ option_and_then (value_in (number ∷ [])) (option_map (λ b. standing_for b.now) value.entry) }
+    ensures { option_map (λ b. standing_for b.now) result ≡ option_and_then (value_in (number ∷ []))
+        (option_map (λ b. standing_for b.now) value.entry) }
 {
     match value {
         Some(binding) => value_in_one(binding, number),
@@ -56,7 +59,8 @@ pub(crate) fn value_in<'b, 'a>(
     binding: &'b Binding<'a>,
     rounds: &[usize],
 ) -> Option<&'b Binding<'a>>
-    ensures { option_map (λ b. standing_for b.now) result ≡ value_in rounds.now (standing_for binding.now) }
+    ensures { option_map (λ b. standing_for b.now) result
+        ≡ value_in rounds.now (standing_for binding.now) }
 {
     let Some((first, inner)) = rounds.split_first() else {
         return Some(binding);
@@ -74,7 +78,8 @@ pub(crate) fn value_here<'b, 'a>(
     bindings: &'b Bindings<'a>,
     rounds: &[usize],
 ) -> Option<&'b Binding<'a>>
-    ensures { option_map (λ b. standing_for b.now) result ≡ option_and_then (value_in rounds.now) (binding_of name.now (map_of bindings.now)) }
+    ensures { option_map (λ b. standing_for b.now) result ≡ option_and_then (value_in rounds.now)
+        (binding_of name.now (map_of bindings.now)) }
 {
     match bindings.get(name) {
         Some(binding) => value_in(binding, rounds),
@@ -87,7 +92,8 @@ const ALWAYS: usize = MOST_ROUNDS + 1;
 
 // In how many iterations, from the first on, a binding has a value.
 fn length_of(binding: &Binding<'_>) -> usize
-    ensures { (k : ℕ) → k ≤ most_rounds → use_at k (Some result) ≡ use_in (k ∷ []) (Some (standing_for binding.now)) }
+    ensures { (k : ℕ) → k ≤ most_rounds → use_at k (Some result)
+        ≡ use_in (k ∷ []) (Some (standing_for binding.now)) }
 {
     match binding {
         Binding::Fragment { .. } => ALWAYS,
@@ -99,7 +105,8 @@ fn length_of(binding: &Binding<'_>) -> usize
 // In how many iterations of the innermost repetition a binding has a value, from the first on.
 // `rounds` are the iterations around it. `None` if it does not use the binding.
 fn length_in(binding: Option<&Binding<'_>>, rounds: &[usize]) -> Option<usize>
-    ensures { (k : ℕ) → k ≤ most_rounds → use_at k result ≡ use_in (rounds.now ++ (k ∷ [])) (option_map (λ b. standing_for b.now) binding.entry) }
+    ensures { (k : ℕ) → k ≤ most_rounds → use_at k result ≡ use_in (rounds.now ++ (k ∷ []))
+        (option_map (λ b. standing_for b.now) binding.entry) }
 {
     let mut here = binding;
     let mut left = rounds;
@@ -133,7 +140,8 @@ fn least(first: Option<usize>, second: Option<usize>) -> Option<usize>
 
 // In how many iterations of the innermost repetition a name has a value.
 fn length_of_name(name: &Symbol, bindings: &Bindings<'_>, rounds: &[usize]) -> Option<usize>
-    ensures { (k : ℕ) → k ≤ most_rounds → use_at k result ≡ use_in (rounds.now ++ (k ∷ [])) (binding_of name.now (map_of bindings.now)) }
+    ensures { (k : ℕ) → k ≤ most_rounds → use_at k result ≡ use_in (rounds.now ++ (k ∷ []))
+        (binding_of name.now (map_of bindings.now)) }
 {
     length_in(bindings.get(name), rounds)
 }
@@ -144,7 +152,9 @@ fn length_of_parts(
     bindings: &Bindings<'_>,
     rounds: &[usize],
 ) -> Option<usize>
-    ensures { (k : ℕ) → k ≤ most_rounds → use_at k result ≡ together (uses_of (rounds.now ++ (k ∷ [])) (map_of bindings.now) (part_names (map part_of parts.now))) }
+    ensures { (k : ℕ) → k ≤ most_rounds → use_at k result
+        ≡ together (uses_of (rounds.now ++ (k ∷ [])) (map_of bindings.now)
+        (part_names (map part_of parts.now))) }
 {
     let mut all = None;
     for part in parts {
@@ -159,7 +169,9 @@ fn length_of_parts(
 // inside have values.
 fn length_of_op(op: &Op, bindings: &Bindings<'_>, rounds: &[usize]) -> Option<usize>
     requires { is_plain (put_op op.now done) ≡ true }
-    ensures { (k : ℕ) → k ≤ most_rounds → use_at k result ≡ together (uses_of (rounds.now ++ (k ∷ [])) (map_of bindings.now) (names (put_op op.now done))) }
+    ensures { (k : ℕ) → k ≤ most_rounds → use_at k result
+        ≡ together (uses_of (rounds.now ++ (k ∷ [])) (map_of bindings.now)
+        (names (put_op op.now done))) }
 {
     match op {
         Op::Var { name, .. } => length_of_name(name, bindings, rounds),
@@ -176,7 +188,9 @@ fn length_of_all(
     bindings: &Bindings<'_>,
     rounds: &[usize],
 ) -> Result<Option<usize>, AllocError>
-    ensures { IfOk result (λ n. (k : ℕ) → k ≤ most_rounds → use_at k n ≡ together (uses_of (rounds.now ++ (k ∷ [])) (map_of bindings.now) (names (items_of ops.now)))) }
+    ensures { IfOk result (λ n. (k : ℕ) → k ≤ most_rounds → use_at k n
+        ≡ together (uses_of (rounds.now ++ (k ∷ [])) (map_of bindings.now)
+        (names (items_of ops.now)))) }
 {
     let mut walk = PlainItems::new(bindings.allocator(), ops);
     let mut all = None;
@@ -194,7 +208,9 @@ pub(crate) fn round_count(
     bindings: &Bindings<'_>,
     rounds: &[usize],
 ) -> Result<usize, AllocError>
-    ensures { IfOk result (λ n. (k : ℕ) → k ≤ most_rounds → nat_lt k n ≡ stands (uses_of (rounds.now ++ (k ∷ [])) (map_of bindings.now) (names (items_of body.now)))) }
+    ensures { IfOk result (λ n. (k : ℕ) → k ≤ most_rounds → nat_lt k n
+        ≡ stands (uses_of (rounds.now ++ (k ∷ [])) (map_of bindings.now)
+        (names (items_of body.now)))) }
 {
     match length_of_all(body, bindings, rounds)? {
         Some(count) => Ok(count),

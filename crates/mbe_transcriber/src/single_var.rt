@@ -24,7 +24,8 @@ pub(crate) fn lone_values<'b, 'a>(
     bindings: &'b Bindings<'a>,
     rounds: &[usize],
 ) -> Option<(Span, &'b [Binding<'a>])>
-    ensures { IfSome result (λ v. (mark : Span → Span) → HasValues mark (map_of bindings.now) rounds.now (items_of body.now) (mark v.0) (length v.1.now) (values_of v.1.now)) }
+    ensures { IfSome result (λ v. (mark : Span → Span) → HasValues mark (map_of bindings.now)
+        rounds.now (items_of body.now) (mark v.0) (length v.1.now) (values_of v.1.now)) }
 {
     let Some((op, rest)) = body.split_first() else {
         return None;
@@ -52,10 +53,16 @@ fn put_later(
     place: Span,
 ) -> Result<bool, TtFault>
     ensures faults { IfErr result IsWantOfRoom }
-    ensures left { (mark : Span → Span) (bound : Map) (ns : List ℕ) (ts : List TranscribeTask) → HasValues mark bound ns (items_of left.entry.body.now) place left.entry.count (values_of values.now) →
-        Steps result (rounds_and mark bound ns left.entry out.old.tree (outcome mark bound ts ns)) (outcome mark bound ts ns out.new.tree) }
-    ensures tokens { (mark : Span → Span) (bound : Map) (ns : List ℕ) (ts : List TranscribeTask) → HasValues mark bound ns (items_of left.entry.body.now) place left.entry.count (values_of values.now) →
-        IsBurstIn result (rounds_and mark bound ns left.entry out.old.tree (outcome mark bound ts ns)) }
+    ensures left { (mark : Span → Span) (bound : Map) (ns : List ℕ) (ts : List TranscribeTask) →
+        HasValues mark bound ns (items_of left.entry.body.now) place left.entry.count
+        (values_of values.now) →
+        Steps result (rounds_and mark bound ns left.entry out.old.tree (outcome mark bound ts ns))
+        (outcome mark bound ts ns out.new.tree) }
+    ensures tokens { (mark : Span → Span) (bound : Map) (ns : List ℕ) (ts : List TranscribeTask) →
+        HasValues mark bound ns (items_of left.entry.body.now) place left.entry.count
+        (values_of values.now) →
+        IsBurstIn result (rounds_and mark bound ns left.entry out.old.tree
+        (outcome mark bound ts ns)) }
 {
     let mut number = left.number;
     while takes_place(number, left.count) {
@@ -82,15 +89,23 @@ pub(crate) fn put_values(
 ) -> Result<bool, TtFault>
     requires { later.number ≡ 1 }
     ensures faults { IfErr result IsWantOfRoom }
-    ensures left { (mark : Span → Span) (bound : Map) (ns : List ℕ) (ts : List TranscribeTask) → HasValues mark bound ns (items_of later.entry.body.now) place later.entry.count (values_of values.now) →
+    ensures left { (mark : Span → Span) (bound : Map) (ns : List ℕ) (ts : List TranscribeTask) →
+        HasValues mark bound ns (items_of later.entry.body.now) place later.entry.count
+        (values_of values.now) →
         Steps result
-        (put_and (repetition_gives mark bound ns (items_of later.entry.body.now) (option_map (λ s. separator_of s.now) later.entry.separator) kind)
-        (repetition_puts_out mark bound ns (items_of later.entry.body.now) (option_map (λ s. separator_of s.now) later.entry.separator) kind)
+        (put_and (repetition_gives mark bound ns (items_of later.entry.body.now)
+        (option_map (λ s. separator_of s.now) later.entry.separator) kind)
+        (repetition_puts_out mark bound ns (items_of later.entry.body.now)
+        (option_map (λ s. separator_of s.now) later.entry.separator) kind)
         out.old.tree (outcome mark bound ts ns)) (outcome mark bound ts ns out.new.tree) }
-    ensures tokens { (mark : Span → Span) (bound : Map) (ns : List ℕ) (ts : List TranscribeTask) → HasValues mark bound ns (items_of later.entry.body.now) place later.entry.count (values_of values.now) →
+    ensures tokens { (mark : Span → Span) (bound : Map) (ns : List ℕ) (ts : List TranscribeTask) →
+        HasValues mark bound ns (items_of later.entry.body.now) place later.entry.count
+        (values_of values.now) →
         IsBurstIn result
-        (put_and (repetition_gives mark bound ns (items_of later.entry.body.now) (option_map (λ s. separator_of s.now) later.entry.separator) kind)
-        (repetition_puts_out mark bound ns (items_of later.entry.body.now) (option_map (λ s. separator_of s.now) later.entry.separator) kind)
+        (put_and (repetition_gives mark bound ns (items_of later.entry.body.now)
+        (option_map (λ s. separator_of s.now) later.entry.separator) kind)
+        (repetition_puts_out mark bound ns (items_of later.entry.body.now)
+        (option_map (λ s. separator_of s.now) later.entry.separator) kind)
         out.old.tree (outcome mark bound ts ns)) }
 {
     if !takes_place(0, later.count) {

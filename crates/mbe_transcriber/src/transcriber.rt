@@ -1,6 +1,8 @@
 //! Transcribes with bindings. The tasks that are left are on a stack in memory, so that nesting
 //! is limited by memory alone.
-ghost use Rattle.std.specs.Prelude.{◌≡◌, ◌<◌, ◌≤◌, ◌+◌, ◌*◌, ◌∷◌, ◌++◌, [], List, false, not, suc, reverse, option_map, if◌then◌else◌, Err, IfErr, IfOk, IfSome, MatchOption, OnOk};
+ghost use Rattle.std.specs.Prelude.{◌≡◌, ◌<◌, ◌≤◌, ◌+◌, ◌*◌, ◌∷◌, ◌++◌, [], List, false, not, suc};
+ghost use Rattle.std.specs.Prelude.{reverse, option_map, if◌then◌else◌, Err, IfErr, IfOk, IfSome};
+ghost use Rattle.std.specs.Prelude.{MatchOption, OnOk};
 ghost use Rattle.tt_data.specs.declared.span.Span.{Span};
 ghost use Rattle.tt_data.specs.fault.TtFault.TheVariants.{Memory, Tokens};
 ghost use Rattle.tt.specs.Building.{Building, most_tokens};
@@ -10,13 +12,18 @@ ghost use Rattle.mbe_matcher.specs.Bindings.{Map};
 ghost use Rattle.mbe_matcher.specs.Bound.{map_of};
 ghost use Rattle.mbe_transcriber.specs.Filling.{filled};
 ghost use Rattle.mbe_transcriber.specs.Limits.{most_rounds};
-ghost use Rattle.mbe_transcriber.specs.Given.{Fills, IsBurstBy, is_plain, is_single, first_gives, first_puts_out, group_gives, gives, puts_out, repetition_gives, repetition_puts_out};
+ghost use Rattle.mbe_transcriber.specs.Given.{Fills, IsBurstBy, is_plain, is_single, first_gives};
+ghost use Rattle.mbe_transcriber.specs.Given.{first_puts_out, group_gives, gives, puts_out};
+ghost use Rattle.mbe_transcriber.specs.Given.{repetition_gives, repetition_puts_out};
 ghost use Rattle.mbe_transcriber.specs.Markers.{IsMarkedBy, is_name};
 ghost use Rattle.mbe_transcriber.specs.Output.{output};
 ghost use Rattle.mbe_transcriber.specs.Room.{IsWantOfRoom};
-ghost use Rattle.mbe_transcriber.specs.Tasks.{IsBurstIn, IsFaulty, Steps, around, outcome, put_and, reached, tasks_of, tasks_of_all, work_of};
+ghost use Rattle.mbe_transcriber.specs.Tasks.{IsBurstIn, IsFaulty, Steps, around, outcome, put_and};
+ghost use Rattle.mbe_transcriber.specs.Tasks.{reached, tasks_of, tasks_of_all, work_of};
 ghost use Rattle.mbe_transcriber.specs.declared.transcriber.TranscribeTask.{TranscribeTask};
-ghost use Rattle.mbe_transcriber.specs.declared.transcriber.TranscribeTask.TheVariants.{Items, Leave, Later};
+ghost use Rattle.mbe_transcriber.specs.declared.transcriber.TranscribeTask.TheVariants.{Items};
+ghost use Rattle.mbe_transcriber.specs.declared.transcriber.TranscribeTask.TheVariants.{Leave};
+ghost use Rattle.mbe_transcriber.specs.declared.transcriber.TranscribeTask.TheVariants.{Later};
 
 use crate::leaf::{marked, put_plain, put_separator};
 use crate::repetition::{Iterations, MOST_ROUNDS, is_single, may_be_empty, takes_place};
@@ -71,13 +78,19 @@ fn put_leading<'t, M: Fn(Span) -> Span>(
 ) -> Result<Option<&'t [Op]>, TtFault>
     requires { M.IsAlwaysCallable marker.now }
     ensures faults { IfErr result IsWantOfRoom }
-    ensures left { (mark : Span → Span) (ts : List TranscribeTask) → IsMarkedBy (M.post marker.now) mark → IfOk result (λ o.
-        MatchOption o (IsFaulty (outcome mark (map_of bindings.now) (Items ops.entry ∷ ts) rounds.now out.old.tree))
-        (λ l. outcome mark (map_of bindings.now) (Items ops.entry ∷ ts) rounds.now out.old.tree ≡ outcome mark (map_of bindings.now) (Items l ∷ ts) rounds.now out.new.tree)) }
+    ensures left { (mark : Span → Span) (ts : List TranscribeTask) →
+        IsMarkedBy (M.post marker.now) mark → IfOk result (λ o.
+        MatchOption o (IsFaulty (outcome mark (map_of bindings.now) (Items ops.entry ∷ ts)
+        rounds.now out.old.tree))
+        (λ l. outcome mark (map_of bindings.now) (Items ops.entry ∷ ts) rounds.now out.old.tree
+        ≡ outcome mark (map_of bindings.now) (Items l ∷ ts) rounds.now out.new.tree)) }
     ensures inside { IfOk result (λ o. IfSome o (λ l. is_plain (items_of l.now) ≡ false)) }
-    ensures tokens { (mark : Span → Span) (ts : List TranscribeTask) → IsMarkedBy (M.post marker.now) mark → result ≡ Err Tokens →
-        most_tokens < reached (outcome mark (map_of bindings.now) (Items ops.entry ∷ ts) rounds.now out.old.tree) }
-    ensures fewer { IfOk result (λ o. IfSome o (λ l. work_of (items_of l.now) ≤ work_of (items_of ops.now))) }
+    ensures tokens { (mark : Span → Span) (ts : List TranscribeTask) →
+        IsMarkedBy (M.post marker.now) mark → result ≡ Err Tokens →
+        most_tokens < reached (outcome mark (map_of bindings.now) (Items ops.entry ∷ ts) rounds.now
+        out.old.tree) }
+    ensures fewer { IfOk result (λ o. IfSome o (λ l. work_of (items_of l.now)
+        ≤ work_of (items_of ops.now))) }
 {
     let mut left = ops;
     while let Some((first, rest)) = left.split_first() {
@@ -114,7 +127,8 @@ impl<'t> Transcription<'t> {
     // Adds a task, which comes next.
     fn plan(&mut self, task: TranscribeTask<'t>) -> Result<(), TtFault>
         ensures faults { IfErr result (λ e. e ≡ Memory) }
-        ensures tasks { OnOk result (self.new.tasks.items ≡ self.old.tasks.items ++ (task.entry ∷ [])) }
+        ensures tasks { OnOk result (self.new.tasks.items ≡ self.old.tasks.items
+            ++ (task.entry ∷ [])) }
         ensures rounds { OnOk result (self.new.rounds.items ≡ self.old.rounds.items) }
     {
         let Ok(()) = self.tasks.push(task) else {
@@ -127,9 +141,12 @@ impl<'t> Transcription<'t> {
     fn plan_rest(&mut self, rest: &'t [Op]) -> Result<(), TtFault>
         ensures faults { IfErr result (λ e. e ≡ Memory) }
         ensures left { (mark : Span → Span) (bound : Map) (b : Building) → OnOk result
-            (outcome mark bound (Items rest.entry ∷ reverse self.old.tasks.items) self.old.rounds.items b ≡ outcome mark bound (reverse self.new.tasks.items) self.new.rounds.items b) }
+            (outcome mark bound (Items rest.entry ∷ reverse self.old.tasks.items)
+            self.old.rounds.items b ≡ outcome mark bound (reverse self.new.tasks.items)
+            self.new.rounds.items b) }
         ensures rounds { OnOk result (self.new.rounds.items ≡ self.old.rounds.items) }
-        ensures fewer { OnOk result (tasks_of_all self.new.tasks.items ≤ tasks_of_all self.old.tasks.items + (1 + work_of (items_of rest.now))) }
+        ensures fewer { OnOk result (tasks_of_all self.new.tasks.items
+            ≤ tasks_of_all self.old.tasks.items + (1 + work_of (items_of rest.now))) }
     {
         if rest.is_empty() {
             return Ok(());
@@ -141,8 +158,10 @@ impl<'t> Transcription<'t> {
     // Opens an iteration.
     fn begin_round(&mut self, body: &'t [Op], number: usize) -> Result<(), TtFault>
         ensures faults { IfErr result (λ e. e ≡ Memory) }
-        ensures tasks { OnOk result (self.new.tasks.items ≡ self.old.tasks.items ++ (Items body.entry ∷ [])) }
-        ensures rounds { OnOk result (self.new.rounds.items ≡ self.old.rounds.items ++ (number ∷ [])) }
+        ensures tasks { OnOk result (self.new.tasks.items ≡ self.old.tasks.items
+            ++ (Items body.entry ∷ [])) }
+        ensures rounds { OnOk result (self.new.rounds.items ≡ self.old.rounds.items
+            ++ (number ∷ [])) }
     {
         let Ok(()) = self.rounds.push(number) else {
             return Err(TtFault::Memory);
@@ -168,14 +187,20 @@ impl<'t> Transcription<'t> {
     ) -> Result<bool, TtFault>
         requires { M.IsAlwaysCallable marker.now }
         ensures faults { IfErr result IsWantOfRoom }
-        ensures left { (mark : Span → Span) (bound : Map) → IsMarkedBy (M.post marker.now) mark → Steps result
-            (put_and (group_gives mark bound delimiter (gives mark bound self.old.rounds.items (items_of inner.now)))
-            (suc (puts_out mark bound self.old.rounds.items (items_of inner.now))) out.old.tree (outcome mark bound (reverse self.old.tasks.items) self.old.rounds.items))
+        ensures left { (mark : Span → Span) (bound : Map) → IsMarkedBy (M.post marker.now) mark →
+            Steps result
+            (put_and (group_gives mark bound delimiter (gives mark bound self.old.rounds.items
+            (items_of inner.now)))
+            (suc (puts_out mark bound self.old.rounds.items (items_of inner.now))) out.old.tree
+            (outcome mark bound (reverse self.old.tasks.items) self.old.rounds.items))
             (outcome mark bound (reverse self.new.tasks.items) self.new.rounds.items out.new.tree) }
         ensures tokens { (mark : Span → Span) (bound : Map) → IsBurstIn result
-            (put_and (group_gives mark bound delimiter (gives mark bound self.old.rounds.items (items_of inner.now)))
-            (suc (puts_out mark bound self.old.rounds.items (items_of inner.now))) out.old.tree (outcome mark bound (reverse self.old.tasks.items) self.old.rounds.items)) }
-        ensures fewer { OnOk result (tasks_of_all self.new.tasks.items < tasks_of_all self.old.tasks.items + (3 + work_of (items_of inner.now))) }
+            (put_and (group_gives mark bound delimiter (gives mark bound self.old.rounds.items
+            (items_of inner.now)))
+            (suc (puts_out mark bound self.old.rounds.items (items_of inner.now))) out.old.tree
+            (outcome mark bound (reverse self.old.tasks.items) self.old.rounds.items)) }
+        ensures fewer { OnOk result (tasks_of_all self.new.tasks.items
+            < tasks_of_all self.old.tasks.items + (3 + work_of (items_of inner.now))) }
     {
         out.open(delimiter.kind, marked(marker, delimiter.open_span))?;
         self.plan(TranscribeTask::Close(delimiter.close_span))?;
@@ -196,15 +221,29 @@ impl<'t> Transcription<'t> {
         requires number { later.number ≡ 1 }
         ensures faults { IfErr result IsWantOfRoom }
         ensures left { (mark : Span → Span) → IsMarkedBy (M.post marker.now) mark → Steps result
-            (put_and (repetition_gives mark (map_of bindings.now) self.old.rounds.items (items_of later.entry.body.now) (option_map (λ s. separator_of s.now) later.entry.separator) kind)
-            (repetition_puts_out mark (map_of bindings.now) self.old.rounds.items (items_of later.entry.body.now) (option_map (λ s. separator_of s.now) later.entry.separator) kind)
-            out.old.tree (outcome mark (map_of bindings.now) (reverse self.old.tasks.items) self.old.rounds.items))
-            (outcome mark (map_of bindings.now) (reverse self.new.tasks.items) self.new.rounds.items out.new.tree) }
-        ensures tokens { (mark : Span → Span) → IsMarkedBy (M.post marker.now) mark → IsBurstIn result
-            (put_and (repetition_gives mark (map_of bindings.now) self.old.rounds.items (items_of later.entry.body.now) (option_map (λ s. separator_of s.now) later.entry.separator) kind)
-            (repetition_puts_out mark (map_of bindings.now) self.old.rounds.items (items_of later.entry.body.now) (option_map (λ s. separator_of s.now) later.entry.separator) kind)
-            out.old.tree (outcome mark (map_of bindings.now) (reverse self.old.tasks.items) self.old.rounds.items)) }
-        ensures fewer { OnOk result (tasks_of_all self.new.tasks.items < tasks_of_all self.old.tasks.items + 65536 * (work_of (items_of later.entry.body.now) + 3)) }
+            (put_and (repetition_gives mark (map_of bindings.now) self.old.rounds.items
+            (items_of later.entry.body.now) (option_map (λ s. separator_of s.now)
+            later.entry.separator) kind)
+            (repetition_puts_out mark (map_of bindings.now) self.old.rounds.items
+            (items_of later.entry.body.now) (option_map (λ s. separator_of s.now)
+            later.entry.separator) kind)
+            out.old.tree (outcome mark (map_of bindings.now) (reverse self.old.tasks.items)
+            self.old.rounds.items))
+            (outcome mark (map_of bindings.now) (reverse self.new.tasks.items) self.new.rounds.items
+            out.new.tree) }
+        ensures tokens { (mark : Span → Span) → IsMarkedBy (M.post marker.now) mark →
+            IsBurstIn result
+            (put_and (repetition_gives mark (map_of bindings.now) self.old.rounds.items
+            (items_of later.entry.body.now) (option_map (λ s. separator_of s.now)
+            later.entry.separator) kind)
+            (repetition_puts_out mark (map_of bindings.now) self.old.rounds.items
+            (items_of later.entry.body.now) (option_map (λ s. separator_of s.now)
+            later.entry.separator) kind)
+            out.old.tree (outcome mark (map_of bindings.now) (reverse self.old.tasks.items)
+            self.old.rounds.items)) }
+        ensures fewer { OnOk result (tasks_of_all self.new.tasks.items
+            < tasks_of_all self.old.tasks.items + 65536 * (work_of (items_of later.entry.body.now)
+            + 3)) }
     {
         if let Some((place, values)) = lone_values(later.body, bindings, &self.rounds) {
             let count = values.len();
@@ -232,15 +271,24 @@ impl<'t> Transcription<'t> {
         requires inside { is_plain (put_op op.now done) ≡ false }
         ensures faults { IfErr result IsWantOfRoom }
         ensures left { (mark : Span → Span) → IsMarkedBy (M.post marker.now) mark → Steps result
-            (put_and (first_gives mark (map_of bindings.now) self.old.rounds.items (put_op op.now done))
-            (first_puts_out mark (map_of bindings.now) self.old.rounds.items (put_op op.now done)) out.old.tree
-            (outcome mark (map_of bindings.now) (reverse self.old.tasks.items) self.old.rounds.items))
-            (outcome mark (map_of bindings.now) (reverse self.new.tasks.items) self.new.rounds.items out.new.tree) }
-        ensures tokens { (mark : Span → Span) → IsMarkedBy (M.post marker.now) mark → IsBurstIn result
-            (put_and (first_gives mark (map_of bindings.now) self.old.rounds.items (put_op op.now done))
-            (first_puts_out mark (map_of bindings.now) self.old.rounds.items (put_op op.now done)) out.old.tree
-            (outcome mark (map_of bindings.now) (reverse self.old.tasks.items) self.old.rounds.items)) }
-        ensures fewer { OnOk result (tasks_of_all self.new.tasks.items < tasks_of_all self.old.tasks.items + work_of (put_op op.now done)) }
+            (put_and (first_gives mark (map_of bindings.now) self.old.rounds.items
+            (put_op op.now done))
+            (first_puts_out mark (map_of bindings.now) self.old.rounds.items (put_op op.now done))
+            out.old.tree
+            (outcome mark (map_of bindings.now) (reverse self.old.tasks.items)
+            self.old.rounds.items))
+            (outcome mark (map_of bindings.now) (reverse self.new.tasks.items) self.new.rounds.items
+            out.new.tree) }
+        ensures tokens { (mark : Span → Span) → IsMarkedBy (M.post marker.now) mark →
+            IsBurstIn result
+            (put_and (first_gives mark (map_of bindings.now) self.old.rounds.items
+            (put_op op.now done))
+            (first_puts_out mark (map_of bindings.now) self.old.rounds.items (put_op op.now done))
+            out.old.tree
+            (outcome mark (map_of bindings.now) (reverse self.old.tasks.items)
+            self.old.rounds.items)) }
+        ensures fewer { OnOk result (tasks_of_all self.new.tasks.items
+            < tasks_of_all self.old.tasks.items + work_of (put_op op.now done)) }
     {
         match op {
             Op::Subtree { tokens, delimiter } => self.enter_group(out, *delimiter, tokens, marker),
@@ -272,11 +320,16 @@ impl<'t> Transcription<'t> {
         requires { M.IsAlwaysCallable marker.now }
         ensures faults { IfErr result IsWantOfRoom }
         ensures left { (mark : Span → Span) → IsMarkedBy (M.post marker.now) mark → Steps result
-            (outcome mark (map_of bindings.now) (Items ops.entry ∷ reverse self.old.tasks.items) self.old.rounds.items out.old.tree)
-            (outcome mark (map_of bindings.now) (reverse self.new.tasks.items) self.new.rounds.items out.new.tree) }
-        ensures tokens { (mark : Span → Span) → IsMarkedBy (M.post marker.now) mark → IsBurstIn result
-            (outcome mark (map_of bindings.now) (Items ops.entry ∷ reverse self.old.tasks.items) self.old.rounds.items out.old.tree) }
-        ensures fewer { OnOk result (tasks_of_all self.new.tasks.items ≤ tasks_of_all self.old.tasks.items + work_of (items_of ops.now)) }
+            (outcome mark (map_of bindings.now) (Items ops.entry ∷ reverse self.old.tasks.items)
+            self.old.rounds.items out.old.tree)
+            (outcome mark (map_of bindings.now) (reverse self.new.tasks.items) self.new.rounds.items
+            out.new.tree) }
+        ensures tokens { (mark : Span → Span) → IsMarkedBy (M.post marker.now) mark →
+            IsBurstIn result
+            (outcome mark (map_of bindings.now) (Items ops.entry ∷ reverse self.old.tasks.items)
+            self.old.rounds.items out.old.tree) }
+        ensures fewer { OnOk result (tasks_of_all self.new.tasks.items
+            ≤ tasks_of_all self.old.tasks.items + work_of (items_of ops.now)) }
     {
         let Some(left) = put_leading(out, ops, bindings, marker, &self.rounds)? else {
             return Ok(false);
@@ -299,11 +352,16 @@ impl<'t> Transcription<'t> {
         requires { M.IsAlwaysCallable marker.now }
         ensures faults { IfErr result IsWantOfRoom }
         ensures left { (mark : Span → Span) → IsMarkedBy (M.post marker.now) mark → Steps result
-            (outcome mark (map_of bindings.now) (Later left.entry ∷ reverse self.old.tasks.items) self.old.rounds.items out.old.tree)
-            (outcome mark (map_of bindings.now) (reverse self.new.tasks.items) self.new.rounds.items out.new.tree) }
-        ensures tokens { (mark : Span → Span) → IsMarkedBy (M.post marker.now) mark → IsBurstIn result
-            (outcome mark (map_of bindings.now) (Later left.entry ∷ reverse self.old.tasks.items) self.old.rounds.items out.old.tree) }
-        ensures fewer { OnOk result (tasks_of_all self.new.tasks.items < tasks_of_all self.old.tasks.items + tasks_of (Later left.entry)) }
+            (outcome mark (map_of bindings.now) (Later left.entry ∷ reverse self.old.tasks.items)
+            self.old.rounds.items out.old.tree)
+            (outcome mark (map_of bindings.now) (reverse self.new.tasks.items) self.new.rounds.items
+            out.new.tree) }
+        ensures tokens { (mark : Span → Span) → IsMarkedBy (M.post marker.now) mark →
+            IsBurstIn result
+            (outcome mark (map_of bindings.now) (Later left.entry ∷ reverse self.old.tasks.items)
+            self.old.rounds.items out.old.tree) }
+        ensures fewer { OnOk result (tasks_of_all self.new.tasks.items
+            < tasks_of_all self.old.tasks.items + tasks_of (Later left.entry)) }
     {
         self.leave();
         let Iterations {
@@ -340,11 +398,16 @@ impl<'t> Transcription<'t> {
         requires { M.IsAlwaysCallable marker.now }
         ensures faults { IfErr result IsWantOfRoom }
         ensures left { (mark : Span → Span) → IsMarkedBy (M.post marker.now) mark → Steps result
-            (outcome mark (map_of bindings.now) (task.entry ∷ reverse self.old.tasks.items) self.old.rounds.items out.old.tree)
-            (outcome mark (map_of bindings.now) (reverse self.new.tasks.items) self.new.rounds.items out.new.tree) }
-        ensures tokens { (mark : Span → Span) → IsMarkedBy (M.post marker.now) mark → IsBurstIn result
-            (outcome mark (map_of bindings.now) (task.entry ∷ reverse self.old.tasks.items) self.old.rounds.items out.old.tree) }
-        ensures fewer { OnOk result (tasks_of_all self.new.tasks.items < tasks_of_all self.old.tasks.items + tasks_of task.entry) }
+            (outcome mark (map_of bindings.now) (task.entry ∷ reverse self.old.tasks.items)
+            self.old.rounds.items out.old.tree)
+            (outcome mark (map_of bindings.now) (reverse self.new.tasks.items) self.new.rounds.items
+            out.new.tree) }
+        ensures tokens { (mark : Span → Span) → IsMarkedBy (M.post marker.now) mark →
+            IsBurstIn result
+            (outcome mark (map_of bindings.now) (task.entry ∷ reverse self.old.tasks.items)
+            self.old.rounds.items out.old.tree) }
+        ensures fewer { OnOk result (tasks_of_all self.new.tasks.items
+            < tasks_of_all self.old.tasks.items + tasks_of task.entry) }
     {
         match task {
             TranscribeTask::Items(ops) => self.put_items(out, ops, bindings, marker),
@@ -380,9 +443,11 @@ pub fn fill<M: Fn(Span) -> Span>(
     requires { M.IsAlwaysCallable marker.now }
     ensures faults { IfErr result IsWantOfRoom }
     ensures filled { (mark : Span → Span) → IsMarkedBy (M.post marker.now) mark →
-        Fills result out.old.tree out.new.tree (filled is_name most_rounds mark (map_of bindings.now) (items_of template.now)) }
+        Fills result out.old.tree out.new.tree (filled is_name most_rounds mark
+        (map_of bindings.now) (items_of template.now)) }
     ensures tokens { (mark : Span → Span) → IsMarkedBy (M.post marker.now) mark →
-        IsBurstBy result out.old.tree (output is_name most_rounds mark (map_of bindings.now) (items_of template.now)) }
+        IsBurstBy result out.old.tree (output is_name most_rounds mark (map_of bindings.now)
+        (items_of template.now)) }
 {
     let mut left = Transcription::new(bindings.allocator())?;
     left.plan(TranscribeTask::Items(template))?;

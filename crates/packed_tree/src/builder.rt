@@ -1,8 +1,11 @@
 //! Builders of packed trees.
-ghost use Rattle.std.specs.Prelude.{◌≡◌, ◌≢◌, ◌↔◌, ◌⊎◌, ◌+◌, ◌<◌, ◌^◌, ◌≤◌, [], reverse, length, take, Err, Some, IfOk, IfErr, IfSome, IsOk, IsOkUnless, IsSome, MatchOption, OnOk, OnErr};
+ghost use Rattle.std.specs.Prelude.{◌≡◌, ◌≢◌, ◌↔◌, ◌⊎◌, ◌+◌, ◌<◌, ◌^◌, ◌≤◌, [], reverse, length};
+ghost use Rattle.std.specs.Prelude.{take, Err, Some, IfOk, IfErr, IfSome, IsOk, IsOkUnless, IsSome};
+ghost use Rattle.std.specs.Prelude.{MatchOption, OnOk, OnErr};
 ghost use Rattle.tt_data.specs.fault.TtFault.TheVariants as fault;
 ghost use Rattle.tt.specs.Building.{cut_in};
-ghost use Rattle.tt.specs.BuilderTokens.{here_of, groups_of, start_of, AreHeads, IsHeld, IsListAt, IsNoListAt, IsSettled};
+ghost use Rattle.tt.specs.BuilderTokens.{here_of, groups_of, start_of, AreHeads, IsHeld, IsListAt};
+ghost use Rattle.tt.specs.BuilderTokens.{IsNoListAt, IsSettled};
 ghost use Rattle.packed_tree.specs.Places.{ArePlaced, IsPlaceIn, mark_at, openings_of};
 
 use crate::packing::{Packing, Place};
@@ -86,7 +89,8 @@ impl Model for PackedTreeBuilder {
 
 impl PackedTreeBuilder {
     ghost use Rattle.tt_data.specs.Forest.{empty};
-    ghost use Rattle.tt.specs.Building.{pushed, opened, closed, count_of, most_tokens, point_of, cut_back};
+    ghost use Rattle.tt.specs.Building.{pushed, opened, closed, count_of, most_tokens, point_of};
+    ghost use Rattle.tt.specs.Building.{cut_back};
 
     /// A builder of a tree with the delimiters `top`, with nothing inside.
     ///
@@ -277,8 +281,10 @@ fn list_at(tokens: &Packing, openings: &[PackedOpening], depth: usize) -> Option
     requires heads { AreHeads tokens.now (openings_of (reverse openings.now)) }
     requires placed { ArePlaced tokens.now (reverse openings.now) }
     ensures place { IfSome result (λ l. IsPlaceIn l.0 tokens.now × (l.1 ≤ length tokens.now)) }
-    ensures list { MatchOption result (IsNoListAt tokens.now (openings_of (reverse openings.now)) depth)
-        (λ l. IsListAt tokens.now (openings_of (reverse openings.now)) depth (mark_at l.0) (take l.1 tokens.now)) }
+    ensures list { MatchOption result (IsNoListAt tokens.now (openings_of (reverse openings.now))
+        depth)
+        (λ l. IsListAt tokens.now (openings_of (reverse openings.now)) depth (mark_at l.0)
+        (take l.1 tokens.now)) }
 {
     let mut upto = tokens.len();
     let mut around = openings;
@@ -306,8 +312,12 @@ fn point_place(
     requires heads { AreHeads tokens.now (openings_of (reverse openings.now)) }
     requires placed { ArePlaced tokens.now (reverse openings.now) }
     requires known { IsPlaceIn settled tokens.now }
-    requires settled { IsSettled settled.count (groups_of tokens.now (openings_of (reverse openings.now))) (here_of tokens.now (openings_of (reverse openings.now))) }
-    ensures valid { IsSome result ↔ IsSome (cut_in point (groups_of tokens.now (openings_of (reverse openings.now))) (here_of tokens.now (openings_of (reverse openings.now)))) }
+    requires settled { IsSettled settled.count
+        (groups_of tokens.now (openings_of (reverse openings.now)))
+        (here_of tokens.now (openings_of (reverse openings.now))) }
+    ensures valid { IsSome result ↔ IsSome
+        (cut_in point (groups_of tokens.now (openings_of (reverse openings.now)))
+        (here_of tokens.now (openings_of (reverse openings.now)))) }
     ensures place { IfSome result (λ p. IsPlaceIn p tokens.now × (p.count ≡ point.tokens + 1)) }
 {
     let count = point.tokens as usize + 1;

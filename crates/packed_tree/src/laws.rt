@@ -21,7 +21,8 @@ pub fn packed_tokens()
         table_after table (a ++ b) ≡ table_after (table_after table a) b }
     ensures table_begins { (table : List (List ℕ)) (ts : List TokenTree) →
         (more : List (List ℕ)) × (table_after table ts ≡ table ++ more) }
-    ensures size { (table : List (List ℕ)) (ts : List TokenTree) → length (records table ts) ≤ 31 * length ts }
+    ensures size { (table : List (List ℕ)) (ts : List TokenTree) → length (records table ts)
+        ≤ 31 * length ts }
     ensures same { (s u : Subtree) (a b : List TokenTree) → s.len ≡ length a → u.len ≡ length b →
         records [] (token.Subtree s ∷ a) ≡ records [] (token.Subtree u ∷ b) →
         table_after [] (token.Subtree s ∷ a) ≡ table_after [] (token.Subtree u ∷ b) →

@@ -1,5 +1,7 @@
 //! Packs tokens: appends their records, and their texts to a table.
-ghost use Rattle.std.specs.Prelude.{◌≡◌, ◌⊎◌, ◌<◌, ◌≤◌, ◌+◌, ◌-◌, ◌^◌, ◌↔◌, ◌∷◌, ◌++◌, [], List, length, min, option_map, take, drop, set, IfOk, IfSome, IsSome, OnOk, OnErr};
+ghost use Rattle.std.specs.Prelude.{◌≡◌, ◌⊎◌, ◌<◌, ◌≤◌, ◌+◌, ◌-◌, ◌^◌, ◌↔◌, ◌∷◌, ◌++◌, [], List};
+ghost use Rattle.std.specs.Prelude.{length, min, option_map, take, drop, set, IfOk, IfSome, IsSome};
+ghost use Rattle.std.specs.Prelude.{OnOk, OnErr};
 ghost use Rattle.tt_data.specs.Forest.{front, size, forest_of, IsPreorder};
 ghost use Rattle.tt_data.specs.declared.tree.TokenTree.{TokenTree};
 ghost use Rattle.tt_data.specs.declared.tree.TokenTree.TheVariants as token;
@@ -56,7 +58,8 @@ impl Place {
     /// `later`, if at most `most` tokens come before it and no fewer than before this one; else
     /// this one.
     pub fn or_later(self, later: Place, most: usize) -> Place
-        ensures { (result ≡ self) ⊎ ((result ≡ later) × (self.count ≤ later.count) × (later.count ≤ most)) }
+        ensures { (result ≡ self) ⊎ ((result ≡ later) × (self.count ≤ later.count)
+            × (later.count ≤ most)) }
     {
         if self.count <= later.count && later.count <= most {
             later
@@ -106,7 +109,8 @@ fn number_in(texts: &mut TextTable, token: &TokenTree) -> Result<u32, AllocError
     requires numbered { IsNumbered texts.old }
     requires room { length texts.old.texts.items < 2 ^ 32 }
     ensures number { IfOk result (λ n. n ≡ number_in (text_of token.now) texts.old.texts.items) }
-    ensures table { OnOk result (texts.new.texts.items ≡ with_token (text_of token.now) texts.old.texts.items) }
+    ensures table { OnOk result (texts.new.texts.items ≡ with_token (text_of token.now)
+        texts.old.texts.items) }
     ensures err { OnErr result (texts.new.texts.items ≡ texts.old.texts.items) }
     ensures numbered { IsNumbered texts.new }
 {
@@ -124,10 +128,13 @@ fn append(
 ) -> Result<(), AllocError>
     requires numbered { IsNumbered texts.old }
     requires room { length texts.old.texts.items < 2 ^ 32 }
-    ensures bytes { OnOk result (records.new ≡ records.old ++ record_of texts.old.texts.items token) }
-    ensures table { OnOk result (texts.new.texts.items ≡ with_token (text_of token) texts.old.texts.items) }
+    ensures bytes { OnOk result (records.new ≡ records.old ++ record_of texts.old.texts.items
+        token) }
+    ensures table { OnOk result (texts.new.texts.items ≡ with_token (text_of token)
+        texts.old.texts.items) }
     ensures err { OnErr result (records.new ≡ records.old) }
-    ensures left { OnErr result ((texts.new.texts.items ≡ texts.old.texts.items) ⊎ (texts.new.texts.items ≡ with_token (text_of token) texts.old.texts.items)) }
+    ensures left { OnErr result ((texts.new.texts.items ≡ texts.old.texts.items) ⊎
+        (texts.new.texts.items ≡ with_token (text_of token) texts.old.texts.items)) }
     ensures numbered { IsNumbered texts.new }
     ensures token { OnOk result (IsToken token) }
 {
@@ -210,7 +217,8 @@ impl Packing {
         requires place { IsPlaceIn at self.now }
         requires more { at.count < length self.now }
         ensures place { result.0 ≡ place_of (take (at.count + 1) self.now) }
-        ensures inside { (t : TokenTree) (more : List TokenTree) → drop at.count self.now ≡ t ∷ more → result.1 ≡ inside_of t }
+        ensures inside { (t : TokenTree) (more : List TokenTree) → drop at.count self.now ≡ t
+            ∷ more → result.1 ≡ inside_of t }
     {
         // The proof that the count fits needs this.
         let _len = self.len();
@@ -252,7 +260,8 @@ impl Packing {
         requires place { IsPlaceIn from self.now }
         requires within { (from.count ≤ upto) × (upto ≤ length self.now) }
         requires whole { IsPreorder (drop from.count (take upto self.now)) }
-        ensures valid { IsSome result ↔ (size (front count (forest_of (drop from.count (take upto self.now)))) ≡ count) }
+        ensures valid { IsSome result ↔
+            (size (front count (forest_of (drop from.count (take upto self.now)))) ≡ count) }
         ensures place { IfSome result (λ p. IsPlaceIn p self.now × (p.count ≡ from.count + count)) }
     {
         let mut at = from;

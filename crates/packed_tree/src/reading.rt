@@ -1,8 +1,12 @@
 //! Reads the records of tokens.
-ghost use Rattle.std.specs.Prelude.{◌≡◌, [], ◌+◌, ◌-◌, ◌<◌, ◌≤◌, ◌↔◌, IsSome, IsTrue, IfSome, SomeIff, length, drop, option_map};
+ghost use Rattle.std.specs.Prelude.{◌≡◌, [], ◌+◌, ◌-◌, ◌<◌, ◌≤◌, ◌↔◌, IsSome, IsTrue, IfSome};
+ghost use Rattle.std.specs.Prelude.{SomeIff, length, drop, option_map};
 ghost use Rattle.tt_data.specs.Literals.{HasSuffix};
 ghost use Rattle.packed_tree.specs.Lent.{token_lent};
-ghost use Rattle.packed_tree.specs.Records.{BeginsWithToken, Tells, entry_in, first_size, first_token, form_of, number, of_group, of_ident, of_literal, of_punct, size_of, sort_of, span_in, token_by};
+ghost use Rattle.packed_tree.specs.Records.{BeginsWithToken, Tells, entry_in, first_size};
+ghost use Rattle.packed_tree.specs.Records.{first_token, form_of, number, of_group, of_ident};
+ghost use Rattle.packed_tree.specs.Records.{of_literal, of_punct, size_of, sort_of, span_in};
+ghost use Rattle.packed_tree.specs.Records.{token_by};
 ghost use Rattle.packed_tree.specs.Places.{inside_in, texts_in};
 
 use crate::lent::PackedToken;
@@ -86,7 +90,8 @@ fn head_of<'a>(kind: DelimiterKind, body: &[u8]) -> PackedToken<'a>
 #[inline(always)]
 fn punct_of<'a>(spacing: Spacing, body: &[u8]) -> Option<PackedToken<'a>>
     requires { 17 ≤ length body.now }
-    ensures { SomeIff (option_map token_lent result) (Tells (of_punct spacing) [] body.now) (token_by (of_punct spacing) 0 [] body.now) }
+    ensures { SomeIff (option_map token_lent result) (Tells (of_punct spacing) [] body.now)
+        (token_by (of_punct spacing) 0 [] body.now) }
 {
     let char = char::from_u32(number_in(from(body, 13)))?;
     Some(PackedToken::Leaf(LeafRef::Punct(Punct {
@@ -100,7 +105,8 @@ fn punct_of<'a>(spacing: Spacing, body: &[u8]) -> Option<PackedToken<'a>>
 #[inline(always)]
 fn entry_in<'a>(table: &'a [Symbol], body: &[u8]) -> Option<&'a Symbol>
     requires { 17 ≤ length body.now }
-    ensures { SomeIff (option_map (λ s. s.now) result) (number (drop 13 body.now) < length table.now) (entry_in table.now body.now) }
+    ensures { SomeIff (option_map (λ s. s.now) result) (number (drop 13 body.now)
+        < length table.now) (entry_in table.now body.now) }
 {
     table.get(number_in(from(body, 13)) as usize)
 }
@@ -109,7 +115,8 @@ fn entry_in<'a>(table: &'a [Symbol], body: &[u8]) -> Option<&'a Symbol>
 #[inline(always)]
 fn ident_of<'a>(is_raw: IdentIsRaw, table: &'a [Symbol], body: &[u8]) -> Option<PackedToken<'a>>
     requires { 17 ≤ length body.now }
-    ensures { SomeIff (option_map token_lent result) (Tells (of_ident is_raw) table.now body.now) (token_by (of_ident is_raw) 0 table.now body.now) }
+    ensures { SomeIff (option_map token_lent result) (Tells (of_ident is_raw) table.now body.now)
+        (token_by (of_ident is_raw) 0 table.now body.now) }
 {
     let sym = entry_in(table, body)?;
     Some(PackedToken::Leaf(LeafRef::Ident(IdentRef {
@@ -156,7 +163,8 @@ fn has_suffix(text: &Symbol, len: u32) -> bool
 #[inline(always)]
 fn literal_of<'a>(tag: u8, table: &'a [Symbol], body: &[u8]) -> Option<PackedToken<'a>>
     requires { 22 ≤ length body.now }
-    ensures { SomeIff (option_map token_lent result) (Tells of_literal table.now body.now) (token_by of_literal tag table.now body.now) }
+    ensures { SomeIff (option_map token_lent result) (Tells of_literal table.now body.now)
+        (token_by of_literal tag table.now body.now) }
 {
     let entry = entry_in(table, body)?;
     let suffix_len = number_in(from(body, 17));
@@ -172,7 +180,8 @@ fn literal_of<'a>(tag: u8, table: &'a [Symbol], body: &[u8]) -> Option<PackedTok
 #[inline(always)]
 fn token_in<'a>(tag: u8, table: &'a [Symbol], body: &[u8]) -> Option<PackedToken<'a>>
     requires { size_of (sort_of tag) ≤ 1 + length body.now }
-    ensures { SomeIff (option_map token_lent result) (Tells (sort_of tag) table.now body.now) (token_by (sort_of tag) tag table.now body.now) }
+    ensures { SomeIff (option_map token_lent result) (Tells (sort_of tag) table.now body.now)
+        (token_by (sort_of tag) tag table.now body.now) }
 {
     match tag {
         0 => Some(head_of(DelimiterKind::Parenthesis, body)),

@@ -2,7 +2,8 @@
 ghost use Rattle.std.specs.Prelude.{◌≡◌, ℕ, List, IsOkUnless, OnOk, OnErr};
 ghost use Rattle.std.specs.List.{FoldsTo};
 ghost use Rattle.tt_data.specs.fault.TtFault.TheVariants as fault;
-ghost use Rattle.tt.specs.Relabelling.{Answers, AnswersBy, anchors_of, asked_about, by_first_use, relabelled, renamed};
+ghost use Rattle.tt.specs.Relabelling.{Answers, AnswersBy, anchors_of, asked_about, by_first_use};
+ghost use Rattle.tt.specs.Relabelling.{relabelled, renamed};
 
 use crate::tree::PackedTree;
 use std::alloc::Global;
@@ -22,9 +23,12 @@ impl PackedTree {
         f: F,
     ) -> Result<(), TtFault>
         requires { F.IsAlwaysCallable f }
-        ensures ok { OnOk result ((entries : List (ℕ × ℕ)) × (last : F) × FoldsTo (Answers F.FnMut) f entries last
-            × (asked_about entries ≡ by_first_use (anchors_of self.old)) × (self.new ≡ relabelled (renamed entries) self.old)) }
-        ensures by_rule { OnOk result ((h : ℕ → ℕ) → AnswersBy F.FnMut h f → self.new ≡ relabelled h self.old) }
+        ensures ok { OnOk result ((entries : List (ℕ × ℕ)) × (last : F) × FoldsTo (Answers F.FnMut)
+            f entries last
+            × (asked_about entries ≡ by_first_use (anchors_of self.old))
+            × (self.new ≡ relabelled (renamed entries) self.old)) }
+        ensures by_rule { OnOk result ((h : ℕ → ℕ) → AnswersBy F.FnMut h f → self.new
+            ≡ relabelled h self.old) }
         ensures err { OnErr result (self.new ≡ self.old) }
         ensures memory { IsOkUnless result fault.Memory }
     {

@@ -12,8 +12,10 @@ use tt_data::{Leaf, TokenTree};
 // Gives the record at a place the spans of a token. The place after it.
 fn set_record(buffer: &mut ByteBuffer, at: usize, token: &TokenTree) -> usize
     requires { IsRespanned at token.now buffer.old }
-    ensures bytes { (r : IsRespanned at token.now buffer.old) → buffer.new ≡ r.before ++ (token_bytes r.n token.now ++ r.more) }
-    ensures next { (r : IsRespanned at token.now buffer.old) → result ≡ length (r.before ++ token_bytes r.n token.now) }
+    ensures bytes { (r : IsRespanned at token.now buffer.old) → buffer.new ≡ r.before
+        ++ (token_bytes r.n token.now ++ r.more) }
+    ensures next { (r : IsRespanned at token.now buffer.old) → result
+        ≡ length (r.before ++ token_bytes r.n token.now) }
 {
     // The proof that the place fits needs this.
     let _len = buffer.bytes().len();

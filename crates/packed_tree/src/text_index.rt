@@ -1,5 +1,6 @@
 //! Numbers of texts, found by the text.
-ghost use Rattle.std.specs.Prelude.{◌≡◌, ◌<◌, ◌^◌, ℕ, List, [], length, None, Some, OnErr, OnOk, if◌then◌else◌, nat_eq};
+ghost use Rattle.std.specs.Prelude.{◌≡◌, ◌<◌, ◌^◌, ℕ, List, [], length, None, Some, OnErr, OnOk};
+ghost use Rattle.std.specs.Prelude.{if◌then◌else◌, nat_eq};
 ghost use Rattle.std.specs.Cmp.Lexicographic.{pointwise};
 ghost use Rattle.packed_tree.specs.Numbers.{Indexes, number_at};
 
@@ -31,7 +32,8 @@ impl TextIndex {
     pub fn insert(&mut self, text: Symbol, number: u32) -> Result<(), AllocError>
         ensures ok { OnOk result ((other : List ℕ) → number_at self.new other
             ≡ (if pointwise nat_eq text other then Some number else number_at self.old other)) }
-        ensures err { OnErr result ((other : List ℕ) → number_at self.new other ≡ number_at self.old other) }
+        ensures err { OnErr result ((other : List ℕ) → number_at self.new other
+            ≡ number_at self.old other) }
     {
         let _ = self.map.insert(text, number)?;
         Ok(())

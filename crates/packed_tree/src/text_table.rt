@@ -1,5 +1,6 @@
 //! A table of texts, numbered by first use.
-ghost use Rattle.std.specs.Prelude.{◌≡◌, ◌-◌, ◌<◌, ◌≤◌, ◌^◌, ◌∷◌, ◌++◌, [], None, length, take, IfOk, OnOk, OnErr};
+ghost use Rattle.std.specs.Prelude.{◌≡◌, ◌-◌, ◌<◌, ◌≤◌, ◌^◌, ◌∷◌, ◌++◌, [], None, length, take};
+ghost use Rattle.std.specs.Prelude.{IfOk, OnOk, OnErr};
 ghost use Rattle.packed_tree.specs.Packing.{number_of, with_text};
 ghost use Rattle.packed_tree.specs.Numbers.{AreDistinct, IsIndexOf, IsNumbered, known_number};
 
@@ -106,7 +107,8 @@ impl TextTable {
         requires numbered { IsNumbered self.old }
         requires room { length self.old.texts.items < 2 ^ 32 }
         ensures number { IfOk result (λ n. n ≡ number_of text.now self.old.texts.items) }
-        ensures table { OnOk result (self.new.texts.items ≡ with_text text.now self.old.texts.items) }
+        ensures table { OnOk result (self.new.texts.items
+            ≡ with_text text.now self.old.texts.items) }
         ensures err { OnErr result (self.new.texts.items ≡ self.old.texts.items) }
         ensures numbered { IsNumbered self.new }
     {
@@ -134,7 +136,8 @@ impl TextTable {
         requires numbered { IsNumbered self.old }
         requires distinct { AreDistinct self.old.texts.items }
         requires some { 0 < length self.old.texts.items }
-        ensures table { self.new.texts.items ≡ take (length self.old.texts.items - 1) self.old.texts.items }
+        ensures table { self.new.texts.items ≡ take (length self.old.texts.items - 1)
+            self.old.texts.items }
         ensures numbered { IsNumbered self.new }
     {
         let Some(text) = self.texts.pop() else {

@@ -1,5 +1,6 @@
 //! The tokens of a packed list, one by one: they are read from the front, record by record.
-ghost use Rattle.std.specs.Prelude.{◌≡◌, ◌↔◌, ◌∷◌, ◌++◌, ◌+◌, ◌<◌, [], ◌≤◌, IfSome, IsTrue, MatchOption, true, false, length, take, drop, set};
+ghost use Rattle.std.specs.Prelude.{◌≡◌, ◌↔◌, ◌∷◌, ◌++◌, ◌+◌, ◌<◌, [], ◌≤◌, IfSome, IsTrue};
+ghost use Rattle.std.specs.Prelude.{MatchOption, true, false, length, take, drop, set};
 ghost use Rattle.tt_data.specs.declared.leaf.Leaf.{Leaf};
 ghost use Rattle.tt_data.specs.declared.tree.TokenTree.TheVariants as token;
 ghost use Rattle.token_storage.specs.Records.{has_leaf_at};
@@ -138,9 +139,11 @@ impl<'a> PackedTokens<'a> {
 
     /// The tokens before and after the leaf at index `idx`, if one is there.
     pub(crate) fn around_leaf(&self, idx: usize) -> Option<(PackedTokens<'a>, PackedTokens<'a>)>
-        ensures there { MatchOption result (has_leaf_at idx self.now ≡ false) (λ _. has_leaf_at idx self.now ≡ true) }
+        ensures there { MatchOption result (has_leaf_at idx self.now ≡ false) (λ _.
+            has_leaf_at idx self.now ≡ true) }
         ensures fewer { IfSome result (λ p. length p.0 + length p.1 < length self.now) }
-        ensures replaced { IfSome result (λ p. (l : Leaf) → p.0 ++ token.Leaf l ∷ p.1 ≡ set self.now idx (token.Leaf l)) }
+        ensures replaced { IfSome result (λ p. (l : Leaf) → p.0 ++ token.Leaf l ∷ p.1
+            ≡ set self.now idx (token.Leaf l)) }
     {
         if self.len() <= idx {
             return None;

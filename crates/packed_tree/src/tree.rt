@@ -1,5 +1,6 @@
 //! Whole trees in packed form.
-ghost use Rattle.std.specs.Prelude.{◌≡◌, ◌⊎◌, ◌↔◌, [], Err, IfOk, IfErr, IsOkUnless, IsTrue, OnOk, OnErr, false, set};
+ghost use Rattle.std.specs.Prelude.{◌≡◌, ◌⊎◌, ◌↔◌, [], Err, IfOk, IfErr, IsOkUnless, IsTrue, OnOk};
+ghost use Rattle.std.specs.Prelude.{OnErr, false, set};
 ghost use Rattle.tt_data.specs.declared.tree.TokenTree.TheVariants as token;
 ghost use Rattle.tt_data.specs.fault.TtFault.TheVariants as fault;
 ghost use Rattle.tt_data.specs.Forest.{size};
@@ -98,8 +99,10 @@ impl PackedTree {
         table: Vec<Symbol>,
     ) -> Result<PackedTree, (Vec<Symbol>, TtFault)>
         ensures ok { IfOk result (λ t. IsPackedForm t bytes.now table.items) }
-        ensures err { IfErr result (λ e. (e.0 ≡ table) × ((e.1 ≡ fault.Memory) ⊎ (e.1 ≡ fault.Malformed))) }
-        ensures malformed { IfErr result (λ e. e.1 ≡ fault.Malformed → (t : Top) → IsPackedForm t bytes.now table.items → ⊥) }
+        ensures err { IfErr result (λ e. (e.0 ≡ table)
+            × ((e.1 ≡ fault.Memory) ⊎ (e.1 ≡ fault.Malformed))) }
+        ensures malformed { IfErr result (λ e. e.1 ≡ fault.Malformed → (t : Top) →
+            IsPackedForm t bytes.now table.items → ⊥) }
     {
         match packed_again(alloc, bytes, table.as_slice()) {
             Ok(tree) => Ok(tree),
@@ -155,7 +158,10 @@ impl PackedTree {
 
     /// Gives the group another kind of delimiters. It takes no memory.
     pub fn set_top_subtree_delimiter_kind(&mut self, kind: DelimiterKind)
-        ensures { self.new ≡ record self.old { delimiter = record self.old.delimiter { kind = kind } } }
+        ensures { self.new ≡ record self.old {
+          delimiter = record self.old.delimiter
+              { kind = kind };
+        } }
     {
         let mut head = self.top_subtree();
         head.delimiter.kind = kind;
@@ -164,7 +170,14 @@ impl PackedTree {
 
     /// Gives the group's delimiters other spans. It takes no memory.
     pub fn set_top_subtree_delimiter_span(&mut self, span: DelimSpan)
-        ensures { self.new ≡ record self.old { delimiter = record { open_span = span.open_span; close_span = span.close_span; kind = self.old.delimiter.kind } } }
+        ensures { self.new ≡ record self.old {
+          delimiter = record {
+            open_span = span.open_span;
+            close_span = span.close_span;
+            kind =
+                self.old.delimiter.kind;
+          };
+        } }
     {
         let mut head = self.top_subtree();
         head.delimiter.open_span = span.open_span;
@@ -180,9 +193,11 @@ impl PackedTree {
     /// It refuses `Place` exactly where no leaf is there; its one other error is `Memory`. A
     /// refused call changes nothing.
     pub fn set_token(&mut self, alloc: Global, idx: usize, leaf: Leaf) -> Result<(), TtFault>
-        ensures ok { OnOk result (tokens_of self.new ≡ set (tokens_of self.old) idx (token.Leaf leaf)) }
+        ensures ok { OnOk result (tokens_of self.new ≡ set (tokens_of self.old) idx
+            (token.Leaf leaf)) }
         ensures err { OnErr result (self.new ≡ self.old) }
-        ensures place { (result ≡ Err fault.Place) ↔ (has_leaf_at idx (tokens_of self.old) ≡ false) }
+        ensures place { (result ≡ Err fault.Place) ↔ (has_leaf_at idx (tokens_of self.old)
+            ≡ false) }
         ensures faults { IfErr result (λ e. (e ≡ fault.Memory) ⊎ (e ≡ fault.Place)) }
     {
         // The proof that all tokens can be packed needs this.
@@ -212,7 +227,8 @@ impl PackedTree {
 fn packed_again(alloc: Global, bytes: &[u8], table: &[Symbol]) -> Result<PackedTree, TtFault>
     ensures ok { IfOk result (λ t. IsPackedForm t bytes.now table.now) }
     ensures faults { IfErr result (λ e. (e ≡ fault.Memory) ⊎ (e ≡ fault.Malformed)) }
-    ensures malformed { IfErr result (λ e. e ≡ fault.Malformed → (t : Top) → IsPackedForm t bytes.now table.now → ⊥) }
+    ensures malformed { IfErr result (λ e. e ≡ fault.Malformed → (t : Top) →
+        IsPackedForm t bytes.now table.now → ⊥) }
 {
     let tree = read_tree(alloc, table, bytes)?;
     let packed = PackedTree::pack(alloc, &tree)?;

@@ -13,8 +13,10 @@ use tt_data::{Symbol, TokenTree, TtFault};
 // The tokens of all records. Where bytes and table are the packed form of some tokens, it gives
 // those, or refuses `Memory`; else it may refuse `Malformed`.
 fn read_tokens(alloc: Global, table: &[Symbol], bytes: &[u8]) -> Result<Vec<TokenTree>, TtFault>
-    ensures ok { (ts : List TokenTree) → ArePacked ts bytes.now table.now → IfOk result (λ r. r.items ≡ ts) }
-    ensures memory { (ts : List TokenTree) → ArePacked ts bytes.now table.now → IfErr result (λ e. e ≡ fault.Memory) }
+    ensures ok { (ts : List TokenTree) → ArePacked ts bytes.now table.now →
+        IfOk result (λ r. r.items ≡ ts) }
+    ensures memory { (ts : List TokenTree) → ArePacked ts bytes.now table.now →
+        IfErr result (λ e. e ≡ fault.Memory) }
     ensures faults { IfErr result (λ e. (e ≡ fault.Memory) ⊎ (e ≡ fault.Malformed)) }
 {
     let mut tokens = Vec::new(alloc);
@@ -42,7 +44,8 @@ pub(crate) fn read_tree(
     bytes: &[u8],
 ) -> Result<TopSubtree, TtFault>
     ensures ok { (t : Top) → IsPackedForm t bytes.now table.now → IfOk result (λ r. r ≡ t) }
-    ensures memory { (t : Top) → IsPackedForm t bytes.now table.now → IfErr result (λ e. e ≡ fault.Memory) }
+    ensures memory { (t : Top) → IsPackedForm t bytes.now table.now →
+        IfErr result (λ e. e ≡ fault.Memory) }
     ensures faults { IfErr result (λ e. (e ≡ fault.Memory) ⊎ (e ≡ fault.Malformed)) }
 {
     let tokens = read_tokens(alloc, table, bytes)?;

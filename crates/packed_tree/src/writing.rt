@@ -1,6 +1,7 @@
 //! Writes the records of tokens.
 ghost use Rattle.std.specs.Prelude.{◌≡◌, ◌∷◌, ◌++◌, [], OnOk, OnErr};
-ghost use Rattle.packed_tree.specs.Records.{context_byte, group_tag, hashes, ident_tag, leaf_bytes, literal_tag, punct_tag, span_bytes, token_bytes, word};
+ghost use Rattle.packed_tree.specs.Records.{context_byte, group_tag, hashes, ident_tag, leaf_bytes};
+ghost use Rattle.packed_tree.specs.Records.{literal_tag, punct_tag, span_bytes, token_bytes, word};
 ghost use Rattle.packed_tree.specs.Packed.{IsToken};
 ghost use Rattle.std.specs.Char.{IsScalar};
 ghost use Rattle.tt_data.specs.declared.leaf.Leaf.TheVariants as as_leaf;

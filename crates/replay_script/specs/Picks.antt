@@ -3,7 +3,8 @@ use Rattle.std.specs.Prelude.{ℕ, Bool, not, ◌&&◌, ◌==◌, List, [], ◌�
 use Rattle.tt_data.specs.Forest.{Forest}
 use Rattle.expander_sources.specs.Homes.{Home}
 use Rattle.expander_sources.specs.Picks.{picked, rooted_picks}
-use Rattle.expander_sources.specs.Sources.{Item, Source, has_attribute, item_at}
+use Rattle.expander_sources.specs.Sources.{Item, Source, item_at}
+use Rattle.expander_model.specs.Definitions.{has_attribute}
 use Rattle.replay_script.specs.Scripts.{indices_of}
 use Rattle.replay_script.specs.declared.line.Pick.{Pick}
 

@@ -1,8 +1,10 @@
 //! Reads a line of a script.
 ghost use Rattle.std.specs.Prelude.{◌≢◌, IfOk, List, MatchOption, MatchResult, [], string_bytes, ℕ};
 ghost use Rattle.std.specs.Io.{StopsAt};
-ghost use Rattle.replay_script.specs.LineReads.{IsLineReadAs, IsNoWord, IsReadAs, IsReadAsEdit, IsReadAsPrelude, IsReadAsSource, IsSourceText};
-ghost use Rattle.replay_script.specs.Scripts.{HasSourceNumber, IsPick, IsSourceNumber, IsWrongText, Says};
+ghost use Rattle.replay_script.specs.LineReads.{IsLineReadAs, IsNoWord, IsReadAs, IsReadAsEdit};
+ghost use Rattle.replay_script.specs.LineReads.{IsReadAsPrelude, IsReadAsSource, IsSourceText};
+ghost use Rattle.replay_script.specs.Scripts.{HasSourceNumber, IsPick, IsSourceNumber, IsWrongText};
+ghost use Rattle.replay_script.specs.Scripts.{Says};
 ghost use Rattle.replay_script.specs.Words.{HasNumber, IsNumber, Lacks, Lists};
 ghost use Rattle.replay_script.specs.declared.line.Pick.{Pick as PickOf};
 

@@ -1,7 +1,9 @@
 //! Definitions of a source, put into a prelude.
-ghost use Rattle.std.specs.Prelude.{◌≡◌, ◌<◌, ◌++◌, IfOk, List, MatchBool, OnOk, None, Some, length};
+ghost use Rattle.std.specs.Prelude.{◌≡◌, ◌<◌, ◌++◌, IfOk, List, MatchBool, OnOk, None, Some};
+ghost use Rattle.std.specs.Prelude.{length};
 ghost use Rattle.expander_sources.specs.Sources.{item_at};
-ghost use Rattle.replay_script.specs.Picks.{behind_own, is_open, open_picks, picks_at, picks_of_source};
+ghost use Rattle.replay_script.specs.Picks.{behind_own, is_open, open_picks, picks_at};
+ghost use Rattle.replay_script.specs.Picks.{picks_of_source};
 ghost use Rattle.tt_data.specs.Forest.{Forest};
 
 use expander::{Prelude, Source};

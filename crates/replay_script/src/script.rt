@@ -3,7 +3,8 @@ ghost use Rattle.std.specs.Prelude.{◌≡◌, ◌↔◌, [], IfOk, IsTrue, None
 ghost use Rattle.std.specs.Io.KnownBytes.{Appends, Consumes};
 ghost use Rattle.expander_session.specs.State.{layers_of as session_layers};
 ghost use Rattle.expander_run.specs.Runs.{layers_of};
-ghost use Rattle.replay_script.specs.LineTurns.{AnswersLine, IsAnswerable, IsNew, IsNext, LineTurn, ReadsLine};
+ghost use Rattle.replay_script.specs.LineTurns.{AnswersLine, IsAnswerable, IsNew, IsNext, LineTurn};
+ghost use Rattle.replay_script.specs.LineTurns.{ReadsLine};
 ghost use Rattle.replay_script.specs.Replays.{Answers, asking};
 ghost use Rattle.replay_script.specs.Told.{answer_told};
 ghost use Rattle.replay_script.specs.declared.answer.LineAnswer.{LineAnswer as LineAnswerOf};

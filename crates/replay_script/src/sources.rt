@@ -1,7 +1,9 @@
 //! The sources of a script, by number, and the preludes that are picked out of them.
-ghost use Rattle.std.specs.Prelude.{◌≡◌, ◌≤◌, ◌+◌, ◌++◌, IfOk, MatchBool, MatchOption, OnErr, OnOk, List, None, Some, length, option_map, ℕ};
+ghost use Rattle.std.specs.Prelude.{◌≡◌, ◌≤◌, ◌+◌, ◌++◌, IfOk, MatchBool, MatchOption, OnErr, OnOk};
+ghost use Rattle.std.specs.Prelude.{List, None, Some, length, option_map, ℕ};
 ghost use Rattle.expander_sources.specs.Sources.{Source as SourceOf};
-ghost use Rattle.replay_script.specs.Picks.{Picked as PickedOf, all_picked, count_of, named_by, picked_by, prelude_of, with_source};
+ghost use Rattle.replay_script.specs.Picks.{Picked as PickedOf, all_picked, count_of, named_by};
+ghost use Rattle.replay_script.specs.Picks.{picked_by, prelude_of, with_source};
 ghost use Rattle.replay_script.specs.Scripts.{indices_of};
 ghost use Rattle.replay_script.specs.SourceTables.{source_in};
 ghost use Rattle.tt_data.specs.Forest.{Forest};

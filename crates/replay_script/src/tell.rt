@@ -1,7 +1,10 @@
 //! Writes answers as text.
 ghost use Rattle.std.specs.Prelude.{◌≡◌, ◌<◌, ◌++◌, OnOk, get_or, length, string_bytes};
 ghost use Rattle.tt_data.specs.declared.span.TextRange.{TextRange};
-ghost use Rattle.replay_script.specs.Told.{answer_told, command_told, expansion_told, fault_lines, kind_name, origin_line, origin_lines, place_line, read_kind_name, refusal_name, refused_told, unread_told, wrong_words};
+ghost use Rattle.replay_script.specs.Told.{answer_told, command_told, expansion_told, fault_lines};
+ghost use Rattle.replay_script.specs.Told.{kind_name, origin_line, origin_lines, place_line};
+ghost use Rattle.replay_script.specs.Told.{read_kind_name, refusal_name, refused_told, unread_told};
+ghost use Rattle.replay_script.specs.Told.{wrong_words};
 
 use crate::answer::LineAnswer;
 use crate::line::Wrong;

@@ -1,7 +1,9 @@
 //! Words of a line: numbers, escapes, and what stands before and after a mark.
-ghost use Rattle.std.specs.Prelude.{◌≡◌, ◌≢◌, ◌<◌, ◌++◌, ◌∷◌, IfOk, IsUtf8, List, MatchOption, None, Some, option_map, string_bytes, ℕ};
+ghost use Rattle.std.specs.Prelude.{◌≡◌, ◌≢◌, ◌<◌, ◌++◌, ◌∷◌, IfOk, IsUtf8, List, MatchOption};
+ghost use Rattle.std.specs.Prelude.{None, Some, option_map, string_bytes, ℕ};
 ghost use Rattle.replay_script.specs.LineReads.{left_of};
-ghost use Rattle.replay_script.specs.Words.{IsNumber, Lacks, LacksNumber, escape_of, is_backslash, unescaped};
+ghost use Rattle.replay_script.specs.Words.{IsNumber, Lacks, LacksNumber, escape_of, is_backslash};
+ghost use Rattle.replay_script.specs.Words.{unescaped};
 
 use std::alloc::{AllocError, Global};
 

@@ -1,5 +1,6 @@
 //! The nodes that are open around a place of the table, in lists of fixed length.
-ghost use Rattle.std.specs.Prelude.{◌≡◌, ◌<◌, [], ◌∷◌, IsTrue, not, false, true, IfSome, IfNone, Bool};
+ghost use Rattle.std.specs.Prelude.{◌≡◌, ◌<◌, [], ◌∷◌, IsTrue, not, false, true, IfSome, IfNone};
+ghost use Rattle.std.specs.Prelude.{Bool};
 ghost use Rattle.tt.specs.Views.{forest};
 ghost use Rattle.tt_data.specs.Forest.{empty};
 ghost use Rattle.rust_grammar.specs.Frames.{frame, has_room};

@@ -3,7 +3,9 @@ ghost use Rattle.std.specs.Prelude.{◌≡◌, ◌||◌, codes};
 ghost use Rattle.tt_data.specs.Editions.{year_of};
 ghost use Rattle.tt_data.specs.Lent.{ident_lent};
 ghost use Rattle.tt.specs.FirstTrees.{first_ident};
-ghost use Rattle.rust_grammar.specs.Tokens.{token_at, a_name, a_const_bracket, is_name, is_reserved, is_not_yet_reserved, is_of_2018, is_lone_const};
+ghost use Rattle.rust_grammar.specs.Tokens.{token_at, a_name, a_const_bracket, is_name};
+ghost use Rattle.rust_grammar.specs.Tokens.{is_reserved, is_not_yet_reserved, is_of_2018};
+ghost use Rattle.rust_grammar.specs.Tokens.{is_lone_const};
 
 use small_grammar::names::{has_text, is_path_word, is_raw_name, is_reserved as is_ever_reserved};
 use tt::TtIter;

@@ -1,9 +1,11 @@
 //! The table of rules, read: its nodes, roots, words and sets.
-ghost use Rattle.std.specs.Prelude.{◌≡◌, ◌<◌, ◌+◌, ◌*◌, ◌%◌, min, Some, slice_get, get_or, length, []};
+ghost use Rattle.std.specs.Prelude.{◌≡◌, ◌<◌, ◌+◌, ◌*◌, ◌%◌, min, Some, slice_get, get_or, length};
+ghost use Rattle.std.specs.Prelude.{[]};
 ghost use Rattle.rust_grammar.specs.Classes.{sign_class};
 ghost use Rattle.rust_grammar.specs.Starts.{starts_at};
 ghost use Rattle.rust_grammar.specs.Rules.{says};
-ghost use Rattle.rust_grammar.specs.Table.{expression_at, name_at, node_at, set_texts, word_text, letters, IsSound};
+ghost use Rattle.rust_grammar.specs.Table.{expression_at, name_at, node_at, set_texts, word_text};
+ghost use Rattle.rust_grammar.specs.Table.{letters, IsSound};
 ghost use Rattle.rust_grammar.specs.declared.table.TheConstants.{IDENTS};
 ghost use Rattle.std.specs.Prelude.{map};
 

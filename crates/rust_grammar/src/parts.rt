@@ -1,11 +1,13 @@
 //! One turn of the interpreter: into a node, or out of an open one.
-ghost use Rattle.std.specs.Prelude.{◌≡◌, ◌<◌, ◌+◌, suc, ◌∷◌, true, Bool, IsTrue, IfSome, List, nat_le};
+ghost use Rattle.std.specs.Prelude.{◌≡◌, ◌<◌, ◌+◌, suc, ◌∷◌, true, Bool, IsTrue, IfSome, List};
+ghost use Rattle.std.specs.Prelude.{nat_le};
 ghost use Rattle.tt.specs.Views.{forest};
 ghost use Rattle.tt_data.specs.Editions.{year_of};
 ghost use Rattle.tt_data.specs.declared.edition.Edition.{Edition};
 ghost use Rattle.rust_grammar.specs.Expressions.{decided, found, nothing_if, or_nothing, without};
 ghost use Rattle.rust_grammar.specs.Frames.{Frame, frame, has_room};
-ghost use Rattle.rust_grammar.specs.Table.{comes_at, is_sound_token, token_of, node_at, expression_at, name_at, IsSound};
+ghost use Rattle.rust_grammar.specs.Table.{comes_at, is_sound_token, token_of, node_at};
+ghost use Rattle.rust_grammar.specs.Table.{expression_at, name_at, IsSound};
 ghost use Rattle.rust_grammar.specs.Rules.{says};
 ghost use Rattle.rust_grammar.specs.Tokens.{token_at};
 ghost use Rattle.rust_grammar.specs.Turns.{on, GoesOn, IsAsGood, IsOption, Leaves};

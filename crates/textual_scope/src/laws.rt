@@ -1,5 +1,6 @@
 //! Laws of scopes. Calling a law does nothing: its contract is the statement.
-ghost use Rattle.std.specs.Prelude.{◌≡◌, ℕ, ◌<◌, ◌≤◌, All, Bool, false, List, [], ◌++◌, Option, Some, None, Ok};
+ghost use Rattle.std.specs.Prelude.{◌≡◌, ℕ, ◌<◌, ◌≤◌, All, Bool, false, List, [], ◌++◌, Option};
+ghost use Rattle.std.specs.Prelude.{Some, None, Ok};
 ghost use Rattle.tt_data.specs.Forest.{Forest, map_spans, size};
 ghost use Rattle.tt_data.specs.Literals.{LiteralParts};
 ghost use Rattle.tt_data.specs.declared.span.Span.{Span};

@@ -72,7 +72,8 @@ impl<'t> Left<'t> {
 
     // Adds a task, which comes next.
     fn plan(&mut self, task: RecoveryTask<'t>) -> Result<(), AllocError>
-        ensures { OnOk result (tasks_of_all self.new.tasks.items ≡ tasks_of_all self.old.tasks.items + tasks_of task.entry) }
+        ensures { OnOk result (tasks_of_all self.new.tasks.items ≡ tasks_of_all self.old.tasks.items
+            + tasks_of task.entry) }
     {
         self.tasks.push(task)?;
         Ok(())
@@ -151,7 +152,9 @@ impl<'f, 'a, M: Fn(Span) -> Span> Filler<'f, 'a, M> {
         is_parted: bool,
     ) -> Result<(), TtFault>
         requires { repetition.round ≤ 65535 }
-        ensures { OnOk result (tasks_of_all left.new.tasks.items < tasks_of_all left.old.tasks.items + (65536 - repetition.entry.round) * (work_of (items_of repetition.entry.body.now) + 3)) }
+        ensures { OnOk result (tasks_of_all left.new.tasks.items < tasks_of_all left.old.tasks.items
+            + (65536 - repetition.entry.round) * (work_of (items_of repetition.entry.body.now)
+            + 3)) }
     {
         match self.next_round(repetition.body, &left.rounds)? {
             Next::None => self.end(left, repetition),
@@ -175,7 +178,9 @@ impl<'f, 'a, M: Fn(Span) -> Span> Filler<'f, 'a, M> {
         left: &mut Left<'t>,
         repetition: Repetition<'t>,
     ) -> Result<(), TtFault>
-        ensures { OnOk result (tasks_of_all left.new.tasks.items < tasks_of_all left.old.tasks.items + (1 + (65535 - repetition.entry.round) * (work_of (items_of repetition.entry.body.now) + 3))) }
+        ensures { OnOk result (tasks_of_all left.new.tasks.items < tasks_of_all left.old.tasks.items
+            + (1 + (65535 - repetition.entry.round) * (work_of (items_of repetition.entry.body.now)
+            + 3))) }
     {
         let next = left.error.take();
         let is_parted = next.is_none();
@@ -204,7 +209,8 @@ impl<'f, 'a, M: Fn(Span) -> Span> Filler<'f, 'a, M> {
         separator: &'t Option<Separator>,
         kind: RepeatKind,
     ) -> Result<(), TtFault>
-        ensures { OnOk result (tasks_of_all left.new.tasks.items < tasks_of_all left.old.tasks.items + 65536 * (work_of (items_of body.now) + 3)) }
+        ensures { OnOk result (tasks_of_all left.new.tasks.items < tasks_of_all left.old.tasks.items
+            + 65536 * (work_of (items_of body.now) + 3)) }
     {
         let start = out.restore_point();
         left.begin_round(0)?;
@@ -230,7 +236,8 @@ impl<'f, 'a, M: Fn(Span) -> Span> Filler<'f, 'a, M> {
         inner: &'t [Op],
     ) -> Result<(), TtFault>
         requires { M.IsAlwaysCallable self.now.marker.now }
-        ensures { OnOk result (tasks_of_all left.new.tasks.items < tasks_of_all left.old.tasks.items + (3 + work_of (items_of inner.now))) }
+        ensures { OnOk result (tasks_of_all left.new.tasks.items < tasks_of_all left.old.tasks.items
+            + (3 + work_of (items_of inner.now))) }
     {
         out.open(delimiter.kind, self.mark(delimiter.open_span))?;
         left.plan(RecoveryTask::Close(delimiter.close_span))?;
@@ -246,7 +253,8 @@ impl<'f, 'a, M: Fn(Span) -> Span> Filler<'f, 'a, M> {
         op: &'t Op,
     ) -> Result<(), TtFault>
         requires { M.IsAlwaysCallable self.now.marker.now }
-        ensures { OnOk result (tasks_of_all left.new.tasks.items < tasks_of_all left.old.tasks.items + work_of (put_op op.now done)) }
+        ensures { OnOk result (tasks_of_all left.new.tasks.items < tasks_of_all left.old.tasks.items
+            + work_of (put_op op.now done)) }
     {
         match op {
             Op::Repeat {
@@ -271,7 +279,8 @@ impl<'f, 'a, M: Fn(Span) -> Span> Filler<'f, 'a, M> {
         task: RecoveryTask<'t>,
     ) -> Result<(), TtFault>
         requires { M.IsAlwaysCallable self.now.marker.now }
-        ensures { OnOk result (tasks_of_all left.new.tasks.items < tasks_of_all left.old.tasks.items + tasks_of task.entry) }
+        ensures { OnOk result (tasks_of_all left.new.tasks.items < tasks_of_all left.old.tasks.items
+            + tasks_of task.entry) }
     {
         match task {
             RecoveryTask::Items(ops) => {

@@ -8,8 +8,10 @@ ghost use Rattle.mbe_rules.specs.Items.{has_empty_round};
 ghost use Rattle.mbe_rules.specs.Ops as ops;
 ghost use Rattle.mbe_rules.specs.Ops.{rules_of};
 ghost use Rattle.mbe_rules.specs.Parsing as parsing;
-ghost use Rattle.mbe_rules.specs.Parsing.{Delimiting, rule_shape, rules_after, rule_then, no_rules, macro_rules_of, macro_of};
-ghost use Rattle.mbe_rules.specs.Reading.{edition_in, delimiting_of, after_delimiter, parts_read, rule_in, rule_read, rule_and_rest};
+ghost use Rattle.mbe_rules.specs.Parsing.{Delimiting, rule_shape, rules_after, rule_then, no_rules};
+ghost use Rattle.mbe_rules.specs.Parsing.{macro_rules_of, macro_of};
+ghost use Rattle.mbe_rules.specs.Reading.{edition_in, delimiting_of, after_delimiter, parts_read};
+ghost use Rattle.mbe_rules.specs.Reading.{rule_in, rule_read, rule_and_rest};
 ghost use Rattle.mbe_rules.specs.Trees.{signs};
 ghost use Rattle.mbe_rules.specs.declared.macro_call_style.MacroCallStyle.TheVariants as style;
 
@@ -65,7 +67,8 @@ fn rule_of(
     pattern: &TtIter<'_>,
     template: &TtIter<'_>,
 ) -> Result<Parsed<Rule>, AllocError>
-    ensures { IfOk result (λ r. rule_read r ≡ parsing.rule_of (edition_in editions) style pattern.now template.now) }
+    ensures { IfOk result (λ r. rule_read r ≡ parsing.rule_of (edition_in editions) style
+        pattern.now template.now) }
 {
     match items(alloc, editions, Mode::Pattern, pattern)? {
         Err(e) => Ok(Err(e)),
@@ -86,7 +89,8 @@ fn rule<'a>(
     editions: Editions,
     trees: &TtIter<'a>,
 ) -> Result<Parsed<(Rule, TtIter<'a>)>, AllocError>
-    ensures { IfOk result (λ r. rule_and_rest r ≡ rule_in (edition_in editions) (parts_read trees.now (rule_shape (signs trees.now)))) }
+    ensures { IfOk result (λ r. rule_and_rest r ≡ rule_in (edition_in editions)
+        (parts_read trees.now (rule_shape (signs trees.now)))) }
 {
     match parts(alloc, trees)? {
         Err(e) => Ok(Err(e)),
@@ -130,7 +134,8 @@ fn rules_of(
     between: Delimiting,
     trees: &TtIter<'_>,
 ) -> Result<Rules, AllocError>
-    ensures { IfOk result (λ r. rules_of r ≡ rules_after (edition_in editions) (delimiting_of between) 0 trees.now) }
+    ensures { IfOk result (λ r. rules_of r ≡ rules_after (edition_in editions)
+        (delimiting_of between) 0 trees.now) }
 {
     let mut list = Vec::new(alloc);
     let mut rest = trees.copied();
@@ -158,7 +163,8 @@ fn one_rule(
     template: &TtIter<'_>,
 ) -> Result<Rules, AllocError>
     ensures { IfOk result (λ r. rules_of r
-        ≡ rule_then (parsing.rule_of (edition_in editions) style.FnLike pattern.now template.now) (no_rules None)) }
+        ≡ rule_then (parsing.rule_of (edition_in editions) style.FnLike pattern.now template.now)
+        (no_rules None)) }
 {
     let mut list = Vec::new(alloc);
     match rule_of(alloc, editions, MacroCallStyle::FnLike, pattern, template)? {
@@ -172,7 +178,8 @@ fn one_rule(
 
 // Whether a matcher of these rules can iterate without end.
 fn is_endless(alloc: Global, list: &[Rule]) -> Result<bool, AllocError>
-    ensures { IfOk result (λ b. b ≡ list_any (λ r. has_empty_round r.pattern) (map ops.rule_of list.now)) }
+    ensures { IfOk result (λ b. b ≡ list_any (λ r. has_empty_round r.pattern)
+        (map ops.rule_of list.now)) }
 {
     for rule in list {
         if has_empty_round(alloc, &rule.pattern)? {
@@ -232,7 +239,8 @@ pub fn parse_macro2<F: Fn(SyntaxContext) -> Edition>(
 ) -> Result<Rules, TtFault>
     requires { F.IsAlwaysCallable ctx_edition }
     ensures ok { (edition : SyntaxContext → Edition) → IsAnsweredBy (F.post ctx_edition) edition →
-        IfOk result (λ r. rules_of r ≡ macro_of edition (option_map (λ t. t.now.inner) args.entry) body.now.inner) }
+        IfOk result (λ r. rules_of r ≡ macro_of edition (option_map (λ t. t.now.inner) args.entry)
+        body.now.inner) }
     ensures memory { IsOkUnless result fault.Memory }
 {
     let editions = Editions::of(ctx_edition);

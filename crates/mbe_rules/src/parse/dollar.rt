@@ -8,8 +8,10 @@ ghost use Rattle.tt.specs.Glued.{glued_count};
 ghost use Rattle.mbe_rules.specs.Items.{word, done, item};
 ghost use Rattle.mbe_rules.specs.Ops.{put_op};
 ghost use Rattle.mbe_rules.specs.Text.{is_truth, is_nil};
-ghost use Rattle.mbe_rules.specs.Patterns.{dollar_head, punct_head, head_at, in_pattern, glued, crate_at};
-ghost use Rattle.mbe_rules.specs.Reading.{edition_in, mode_of, op_read, head_read, typing, variable_read, expression_read};
+ghost use Rattle.mbe_rules.specs.Patterns.{dollar_head, punct_head, head_at, in_pattern, glued};
+ghost use Rattle.mbe_rules.specs.Patterns.{crate_at};
+ghost use Rattle.mbe_rules.specs.Reading.{edition_in, mode_of, op_read, head_read, typing};
+ghost use Rattle.mbe_rules.specs.Reading.{variable_read, expression_read};
 ghost use Rattle.mbe_rules.specs.declared.errors.ParseError.TheVariants as error;
 
 use crate::errors::ParseError;
@@ -82,7 +84,8 @@ fn typed_variable<'a>(
     name: Symbol,
     trees: &TtIter<'a>,
 ) -> Result<Parsed<Read<'a>>, AllocError>
-    ensures { IfOk result (λ r. op_read r ≡ variable_read (edition_in editions) in_pattern id name trees.now) }
+    ensures { IfOk result (λ r. op_read r ≡ variable_read (edition_in editions) in_pattern id name
+        trees.now) }
 {
     let Some((word, rest)) = typing(trees) else {
         let e = unexpected(alloc, "missing fragment specifier")?;
@@ -101,7 +104,8 @@ fn variable<'a>(
     name: Symbol,
     trees: &TtIter<'a>,
 ) -> Result<Parsed<Read<'a>>, AllocError>
-    ensures { IfOk result (λ r. op_read r ≡ variable_read (edition_in editions) (mode_of mode) id name trees.now) }
+    ensures { IfOk result (λ r. op_read r ≡ variable_read (edition_in editions) (mode_of mode) id
+        name trees.now) }
 {
     match mode {
         Mode::Pattern => typed_variable(alloc, editions, id, name, trees),
@@ -163,8 +167,10 @@ fn dollar_literal<'a>(
     literal: &Literal,
     rest: TtIter<'a>,
 ) -> Result<Parsed<Read<'a>>, AllocError>
-    ensures { IfOk result (λ r. op_read r ≡ head_read sign (leaf (as_leaf.Literal literal.now) rest.entry)
-        (dollar_head (edition_in editions) (mode_of mode) (leaf (as_leaf.Literal literal.now) rest.entry))) }
+    ensures { IfOk result (λ r. op_read r
+        ≡ head_read sign (leaf (as_leaf.Literal literal.now) rest.entry)
+        (dollar_head (edition_in editions) (mode_of mode) (leaf (as_leaf.Literal literal.now)
+        rest.entry))) }
 {
     if !is_name(literal) {
         let e = expected(alloc, "expected ident")?;
@@ -182,7 +188,8 @@ fn dollar_punct<'a>(
     second: Punct,
     rest: TtIter<'a>,
 ) -> Result<Parsed<Read<'a>>, AllocError>
-    ensures { IfOk result (λ r. (edition : SyntaxContext → Edition) → op_read r ≡ head_read sign (leaf (as_leaf.Punct second) rest.entry)
+    ensures { IfOk result (λ r. (edition : SyntaxContext → Edition) → op_read r
+        ≡ head_read sign (leaf (as_leaf.Punct second) rest.entry)
         (dollar_head edition (mode_of mode) (leaf (as_leaf.Punct second) rest.entry))) }
 {
     if second.char != '$' {
@@ -233,7 +240,8 @@ fn dollar_group<'a>(
     inner: TtIter<'a>,
     rest: TtIter<'a>,
 ) -> Result<Parsed<Read<'a>>, AllocError>
-    ensures { IfOk result (λ r. (edition : SyntaxContext → Edition) → op_read r ≡ head_read sign (group delimiter inner.entry rest.entry)
+    ensures { IfOk result (λ r. (edition : SyntaxContext → Edition) → op_read r
+        ≡ head_read sign (group delimiter inner.entry rest.entry)
         (dollar_head edition (mode_of mode) (group delimiter inner.entry rest.entry))) }
 {
     match delimiter.kind {
@@ -260,7 +268,8 @@ fn dollar<'a>(
     sign: Punct,
     trees: &TtIter<'a>,
 ) -> Result<Parsed<Read<'a>>, AllocError>
-    ensures { IfOk result (λ r. op_read r ≡ head_read sign trees.now (dollar_head (edition_in editions) (mode_of mode) trees.now)) }
+    ensures { IfOk result (λ r. op_read r ≡ head_read sign trees.now
+        (dollar_head (edition_in editions) (mode_of mode) trees.now)) }
 {
     let mut rest = trees.copied();
     match rest.next() {
@@ -294,7 +303,8 @@ fn glued<'a>(
     trees: &TtIter<'a>,
 ) -> Result<(Op, TtIter<'a>), AllocError>
     ensures { IfOk result (λ r. Ok (put_op r.0 done, r.1)
-        ≡ head_read first trees.now (Ok (glued (glued_count (leaf (as_leaf.Punct first) trees.now))))) }
+        ≡ head_read first trees.now
+        (Ok (glued (glued_count (leaf (as_leaf.Punct first) trees.now))))) }
 {
     let (glued, rest) = trees.copied().glued_to(first);
     let mut puncts = Vec::new(alloc);
@@ -309,7 +319,8 @@ fn named_quote<'a>(
     trees: &TtIter<'a>,
 ) -> Result<Parsed<Read<'a>>, AllocError>
     requires { sign.char ≡ 39 }
-    ensures { IfOk result (λ r. op_read r ≡ head_read sign trees.now (punct_head in_pattern sign trees.now)) }
+    ensures { IfOk result (λ r. op_read r ≡ head_read sign trees.now (punct_head in_pattern sign
+        trees.now)) }
 {
     let mut rest = trees.copied();
     match rest.next() {
@@ -328,7 +339,8 @@ fn punct<'a>(
     sign: Punct,
     trees: &TtIter<'a>,
 ) -> Result<Parsed<Read<'a>>, AllocError>
-    ensures { IfOk result (λ r. op_read r ≡ head_read sign trees.now (punct_head (mode_of mode) sign trees.now)) }
+    ensures { IfOk result (λ r. op_read r ≡ head_read sign trees.now (punct_head (mode_of mode) sign
+        trees.now)) }
 {
     match mode {
         Mode::Pattern => {
@@ -353,7 +365,8 @@ pub(crate) fn head<'a>(
     sign: Punct,
     trees: &TtIter<'a>,
 ) -> Result<Parsed<Read<'a>>, AllocError>
-    ensures { IfOk result (λ r. op_read r ≡ head_read sign trees.now (head_at (edition_in editions) (mode_of mode) sign trees.now)) }
+    ensures { IfOk result (λ r. op_read r ≡ head_read sign trees.now (head_at (edition_in editions)
+        (mode_of mode) sign trees.now)) }
 {
     if sign.char == '$' {
         return dollar(alloc, editions, mode, sign, trees);

@@ -1,10 +1,14 @@
 //! Parses metavariable expressions: what is in `${..}`.
-ghost use Rattle.std.specs.Prelude.{◌≡◌, ◌≢◌, ◌≤◌, ◌<◌, ◌∷◌, None, if◌then◌else◌, IfOk, IsOkUnless, option_map};
+ghost use Rattle.std.specs.Prelude.{◌≡◌, ◌≢◌, ◌≤◌, ◌<◌, ◌∷◌, None, if◌then◌else◌, IfOk, IsOkUnless};
+ghost use Rattle.std.specs.Prelude.{option_map};
 ghost use Rattle.tt_data.specs.Forest.{empty, size};
 ghost use Rattle.symbols.specs.declared.fault.TtFault.TheVariants as fault;
-ghost use Rattle.mbe_rules.specs.Expressions.{number_in, depth_in, depth_after, variable_in, count_in, ignore_in, concat_in, parts_in, part_then, function_of, expression_in};
+ghost use Rattle.mbe_rules.specs.Expressions.{number_in, depth_in, depth_after, variable_in};
+ghost use Rattle.mbe_rules.specs.Expressions.{count_in, ignore_in, concat_in, parts_in, part_then};
+ghost use Rattle.mbe_rules.specs.Expressions.{function_of, expression_in};
 ghost use Rattle.mbe_rules.specs.Items.{Part, index_of, len_of};
-ghost use Rattle.mbe_rules.specs.Steps.{variable_read, function_called, meaning, standing_at, parts_of, parts_behind, comma_behind, parts_after};
+ghost use Rattle.mbe_rules.specs.Steps.{variable_read, function_called, meaning, standing_at};
+ghost use Rattle.mbe_rules.specs.Steps.{parts_of, parts_behind, comma_behind, parts_after};
 ghost use Rattle.mbe_rules.specs.Text.{is_nil};
 ghost use Rattle.mbe_rules.specs.Trees.{punct, signs};
 
@@ -102,7 +106,8 @@ fn ignore(arguments: TtIter<'_>, id: Span) -> Option<Op>
 
 // `index(depth)`
 fn index(arguments: TtIter<'_>, id: Span) -> Option<Op>
-    ensures { meaning result ≡ standing_at id (option_map index_of (depth_in (signs arguments.entry))) }
+    ensures { meaning result
+        ≡ standing_at id (option_map index_of (depth_in (signs arguments.entry))) }
 {
     let depth = depth(arguments)?;
     Some(Op::Index { depth, id })
@@ -110,7 +115,8 @@ fn index(arguments: TtIter<'_>, id: Span) -> Option<Op>
 
 // `len(depth)`
 fn len(arguments: TtIter<'_>, id: Span) -> Option<Op>
-    ensures { meaning result ≡ standing_at id (option_map len_of (depth_in (signs arguments.entry))) }
+    ensures { meaning result
+        ≡ standing_at id (option_map len_of (depth_in (signs arguments.entry))) }
 {
     let depth = depth(arguments)?;
     Some(Op::Len { depth, id })
@@ -118,7 +124,8 @@ fn len(arguments: TtIter<'_>, id: Span) -> Option<Op>
 
 // The part that a punct begins: a `$` and the name after it, which is consumed.
 fn value(sign: Punct, rest: &mut TtIter<'_>) -> Option<ConcatElement>
-    ensures part { parts_in (punct sign.char ∷ signs rest.old) ≡ parts_behind result (signs rest.new) }
+    ensures part { parts_in (punct sign.char ∷ signs rest.old)
+        ≡ parts_behind result (signs rest.new) }
     ensures shorter { size rest.new ≤ size rest.old }
 {
     match rest.next() {
@@ -149,7 +156,8 @@ fn part(alloc: Global, rest: &mut TtIter<'_>) -> Result<Option<ConcatElement>, T
 
 // Whether a comma or nothing comes after a part. The comma is consumed.
 fn comma(rest: &mut TtIter<'_>) -> bool
-    ensures comma { (p : Part) → part_then p (signs rest.old) ≡ comma_behind result p (signs rest.new) }
+    ensures comma { (p : Part) → part_then p (signs rest.old)
+        ≡ comma_behind result p (signs rest.new) }
     ensures shorter { size rest.new ≤ size rest.old }
 {
     match rest.next() {
@@ -196,7 +204,8 @@ fn parts(alloc: Global, trees: TtIter<'_>) -> Result<Option<Vec<ConcatElement>>,
 
 // `concat(part, part, ..)`
 fn concat(alloc: Global, arguments: TtIter<'_>, id: Span) -> Result<Option<Op>, TtFault>
-    ensures concat { IfOk result (λ r. meaning r ≡ standing_at id (concat_in (parts_in (signs arguments.entry)))) }
+    ensures concat { IfOk result (λ r. meaning r
+        ≡ standing_at id (concat_in (parts_in (signs arguments.entry)))) }
     ensures memory { IsOkUnless result fault.Memory }
 {
     let Some(elements) = parts(alloc, arguments)? else {
@@ -215,7 +224,8 @@ fn function(
     arguments: TtIter<'_>,
     id: Span,
 ) -> Result<Option<Op>, TtFault>
-    ensures function { IfOk result (λ r. meaning r ≡ standing_at id (function_of called.now (signs arguments.entry))) }
+    ensures function { IfOk result (λ r. meaning r
+        ≡ standing_at id (function_of called.now (signs arguments.entry))) }
     ensures memory { IsOkUnless result fault.Memory }
 {
     match called {
@@ -253,7 +263,8 @@ pub(crate) fn expression(
     trees: TtIter<'_>,
     span: Span,
 ) -> Result<Option<Op>, TtFault>
-    ensures expression { IfOk result (λ r. meaning r ≡ standing_at span (expression_in trees.entry)) }
+    ensures expression { IfOk result (λ r. meaning r
+        ≡ standing_at span (expression_in trees.entry)) }
     ensures memory { IsOkUnless result fault.Memory }
 {
     match call(trees) {

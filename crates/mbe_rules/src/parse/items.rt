@@ -6,7 +6,8 @@ ghost use Rattle.tt_data.specs.declared.span.SyntaxContext.{SyntaxContext};
 ghost use Rattle.tt_data.specs.Forest.{empty, leaf};
 ghost use Rattle.tt_data.specs.declared.leaf.Leaf.TheVariants as as_leaf;
 ghost use Rattle.mbe_rules.specs.Items.{done};
-ghost use Rattle.mbe_rules.specs.Lists.{enclosed, found_read, Leaves, left_for, whole, weight, step_read, IsLess};
+ghost use Rattle.mbe_rules.specs.Lists.{enclosed, found_read, Leaves, left_for, whole, weight};
+ghost use Rattle.mbe_rules.specs.Lists.{step_read, IsLess};
 ghost use Rattle.mbe_rules.specs.Ops as ops;
 ghost use Rattle.mbe_rules.specs.Ops.{put_op};
 ghost use Rattle.mbe_rules.specs.Patterns as patterns;
@@ -104,7 +105,8 @@ fn at_punct<'a>(
     sign: Punct,
     trees: &TtIter<'a>,
 ) -> Result<Parsed<Found<'a>>, AllocError>
-    ensures read { IfOk result (λ r. items_of (edition_in editions) (mode_of mode) (leaf (as_leaf.Punct sign) trees.now) ≡ found_read (edition_in editions) (mode_of mode) r) }
+    ensures read { IfOk result (λ r. items_of (edition_in editions) (mode_of mode)
+        (leaf (as_leaf.Punct sign) trees.now) ≡ found_read (edition_in editions) (mode_of mode) r) }
     ensures leaves { IfOk result (λ r. Leaves (leaf (as_leaf.Punct sign) trees.now) r) }
 {
     let Some((inner, behind)) = repetition(sign, trees) else {
@@ -130,7 +132,8 @@ fn at_head<'a>(
     mode: Mode,
     trees: &TtIter<'a>,
 ) -> Result<Parsed<Found<'a>>, AllocError>
-    ensures read { IfOk result (λ r. items_of (edition_in editions) (mode_of mode) trees.now ≡ found_read (edition_in editions) (mode_of mode) r) }
+    ensures read { IfOk result (λ r. items_of (edition_in editions) (mode_of mode) trees.now
+        ≡ found_read (edition_in editions) (mode_of mode) r) }
     ensures leaves { IfOk result (λ r. Leaves trees.now r) }
 {
     let mut rest = trees.copied();
@@ -174,7 +177,8 @@ fn enter<'a>(
 ) -> Result<Nest<'a>, AllocError>
     ensures before { IfOk result (λ o. o.before.items ≡ []) }
     ensures rest { IfOk result (λ o. o.rest ≡ inner.entry) }
-    ensures around { IfOk result (λ o. o.around.items ≡ nest.entry.around.items ++ (left_for nest.entry enclosing rest.entry ∷ [])) }
+    ensures around { IfOk result (λ o. o.around.items ≡ nest.entry.around.items
+        ++ (left_for nest.entry enclosing rest.entry ∷ [])) }
 {
     let mut around = nest.around;
     around.push(Around {
@@ -193,7 +197,8 @@ fn enter<'a>(
 // all is parsed.
 fn leave<'a>(nest: Nest<'a>) -> Result<Step<'a>, AllocError>
     requires { nest.rest ≡ empty }
-    ensures read { IfOk result (λ s. (edition : SyntaxContext → Edition) → (m : patterns.Mode) → whole edition m nest.entry ≡ step_read edition m s) }
+    ensures read { IfOk result (λ s. (edition : SyntaxContext → Edition) → (m : patterns.Mode) →
+        whole edition m nest.entry ≡ step_read edition m s) }
     ensures less { IfOk result (λ s. IsLess (weight nest.entry) s) }
 {
     let mut around = nest.around;
@@ -216,7 +221,8 @@ fn read_on<'a>(
     mode: Mode,
     nest: Nest<'a>,
 ) -> Result<Step<'a>, AllocError>
-    ensures read { IfOk result (λ s. whole (edition_in editions) (mode_of mode) nest.entry ≡ step_read (edition_in editions) (mode_of mode) s) }
+    ensures read { IfOk result (λ s. whole (edition_in editions) (mode_of mode) nest.entry
+        ≡ step_read (edition_in editions) (mode_of mode) s) }
     ensures less { IfOk result (λ s. IsLess (weight nest.entry) s) }
 {
     match at_head(alloc, editions, mode, &nest.rest)? {
@@ -240,7 +246,8 @@ pub(crate) fn items<'a>(
     mode: Mode,
     trees: &TtIter<'a>,
 ) -> Result<Parsed<Vec<Op>>, AllocError>
-    ensures { IfOk result (λ r. ops_read r ≡ items_of (edition_in editions) (mode_of mode) trees.now) }
+    ensures { IfOk result (λ r. ops_read r ≡ items_of (edition_in editions) (mode_of mode)
+        trees.now) }
 {
     let mut nest = Nest {
         before: Vec::new(alloc),

@@ -1,7 +1,8 @@
 //! Parses what comes after `$(..)`: a separator and an operator.
 ghost use Rattle.std.specs.Prelude.{◌≡◌, Some, IfOk, option_map};
 ghost use Rattle.mbe_rules.specs.Ops.{separator_of};
-ghost use Rattle.mbe_rules.specs.Repetitions.{operator_of, after_one, after_two, between_and_operator};
+ghost use Rattle.mbe_rules.specs.Repetitions.{operator_of, after_one, after_two};
+ghost use Rattle.mbe_rules.specs.Repetitions.{between_and_operator};
 ghost use Rattle.mbe_rules.specs.Trees.{signs};
 ghost use Rattle.mbe_rules.specs.Reading.{taken_from, repeat_of, operator_next};
 ghost use Rattle.mbe_rules.specs.declared.parser.RepeatKind.{RepeatKind};
@@ -44,7 +45,9 @@ fn operator_next<'a>(trees: &TtIter<'a>) -> Option<(RepeatKind, TtIter<'a>)>
 
 // This separator, and the operator at the front of the list after it.
 fn followed<'a>(separator: Separator, trees: &TtIter<'a>) -> Option<Repeat<'a>>
-    ensures { repeat_of result ≡ option_map (λ (x : RepeatKind × Forest). (Some (separator_of separator), x.0, x.1)) (operator_next trees.now) }
+    ensures { repeat_of result
+        ≡ option_map (λ (x : RepeatKind × Forest). (Some (separator_of separator), x.0, x.1))
+        (operator_next trees.now) }
 {
     let (operator, after) = operator_next(trees)?;
     Some((Some(separator), operator, after))
@@ -58,7 +61,8 @@ fn after_two<'a>(
     trees: &TtIter<'a>,
 ) -> Result<Option<Repeat<'a>>, AllocError>
     ensures { IfOk result (λ r. repeat_of r
-        ≡ taken_from (leaf (as_leaf.Punct first) (leaf (as_leaf.Punct second) trees.now)) (after_two (signs trees.now))) }
+        ≡ taken_from (leaf (as_leaf.Punct first) (leaf (as_leaf.Punct second) trees.now))
+        (after_two (signs trees.now))) }
 {
     let mut rest = trees.copied();
     let Some(TtElement::Leaf(Leaf::Punct(third))) = rest.next() else {
@@ -82,7 +86,8 @@ fn after_one<'a>(
     first: Punct,
     trees: &TtIter<'a>,
 ) -> Result<Option<Repeat<'a>>, AllocError>
-    ensures { IfOk result (λ r. repeat_of r ≡ taken_from (leaf (as_leaf.Punct first) trees.now) (after_one first.char (signs trees.now))) }
+    ensures { IfOk result (λ r. repeat_of r ≡ taken_from (leaf (as_leaf.Punct first) trees.now)
+        (after_one first.char (signs trees.now))) }
 {
     let mut rest = trees.copied();
     match rest.next() {
@@ -112,7 +117,8 @@ pub(crate) fn repeat<'a>(
     alloc: Global,
     trees: &TtIter<'a>,
 ) -> Result<Option<Repeat<'a>>, AllocError>
-    ensures { IfOk result (λ r. repeat_of r ≡ taken_from trees.now (between_and_operator (signs trees.now))) }
+    ensures { IfOk result (λ r. repeat_of r
+        ≡ taken_from trees.now (between_and_operator (signs trees.now))) }
 {
     let mut rest = trees.copied();
     match rest.next() {

@@ -85,7 +85,8 @@ fn with_parentheses<'a>(
     style: MacroCallStyle,
     trees: &TtIter<'a>,
 ) -> Result<Parsed<RuleParts<'a>>, AllocError>
-    ensures { IfOk result (λ r. r ≡ parts_read trees.now (with_parentheses style 0 (signs trees.now))) }
+    ensures { IfOk result (λ r.
+        r ≡ parts_read trees.now (with_parentheses style 0 (signs trees.now))) }
 {
     let Some((_inner, rest)) = group_next(trees) else {
         return missing(alloc, "expected `()`");

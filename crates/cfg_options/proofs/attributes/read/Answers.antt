@@ -2,7 +2,7 @@ use Rattle.std.proofs.Common.{◌≡◌, sym, ap, ◌∙◌, codes}
 use Rattle.std.proofs.lemmas.Result.{IfOk-weaker}
 use Rattle.cfg_options.specs.Attributes.{and_also, first_value, found_inside, found_of_cfg_attr, nothing_found}
 use Rattle.cfg_options.specs.Misread.{span_of_name}
-use Rattle.cfg_options.specs.Parts.{after_part}
+use Rattle.cfg_options.specs.Conditions.{after_part}
 use Rattle.cfg_options.proofs.FindingLemmas.{attr_less, read_attr_is, read_cfg_is, read_other_is}
 use Rattle.cfg_options.proofs.attributes.read.Goals as goal
 

@@ -3,7 +3,7 @@ use Rattle.std.proofs.Common.{◌-◌, ◌++◌, ◌∙◌, ◌<◌, ◌∷◌, 
 use Rattle.std.proofs.lemmas.Result.{IfOk-equal}
 use Rattle.cfg_options.proofs.PartLemmas.{cut_first, less_after}
 use Rattle.cfg_options.specs.Conditions.{cut_at_commas}
-use Rattle.cfg_options.specs.Parts.{first_part}
+use Rattle.cfg_options.specs.Conditions.{first_part}
 use Rattle.tt_data.specs.Forest.{Forest, empty, size}
 use Rattle.crate_items.proofs.ImportLemmas.{a_segment, names_more, no_level, no_segment, some_tree}
 use Rattle.crate_items.proofs.ItemLemmas.{next_tree}

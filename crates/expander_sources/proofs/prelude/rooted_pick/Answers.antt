@@ -7,7 +7,7 @@ use Rattle.expander_model.specs.Calls.{key_behind}
 use Rattle.expander_sources.specs.Homes.{root_of}
 use Rattle.expander_sources.specs.Imports.{import_piece}
 use Rattle.expander_sources.specs.Picks.{home_piece, rooted_pick}
-use Rattle.expander_sources.specs.Sources.{has_attribute}
+use Rattle.expander_model.specs.Definitions.{has_attribute}
 use Rattle.expander_sources.proofs.ImportLemmas.{pick_builtin, pick_other}
 use Rattle.expander_sources.proofs.PartLemmas.{has_attribute-with}
 use Rattle.expander_sources.proofs.prelude.rooted_pick.Goals as goal

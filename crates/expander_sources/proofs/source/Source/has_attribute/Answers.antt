@@ -2,7 +2,8 @@ use Rattle.std.proofs.Common.{◌∙◌, ap, sym}
 use Rattle.bridge.specs.RelativeSpans.{moved_to}
 use Rattle.std.specs.Rc.{rc_value}
 use Rattle.tt.specs.Tops.{Top}
-use Rattle.expander_sources.specs.Sources.{Item, has_attribute}
+use Rattle.expander_sources.specs.Sources.{Item}
+use Rattle.expander_model.specs.Definitions.{has_attribute}
 use Rattle.expander_sources.proofs.PartLemmas.{has_attribute-with}
 use Rattle.expander_sources.proofs.source.Source.has_attribute.Goals as goal
 

@@ -1,7 +1,7 @@
 use Rattle.std.proofs.Common.{◌≡◌}
 use Rattle.tt_data.specs.Forest.{size}
-use Rattle.expander_sources.specs.Sources.{has_attribute}
-use Rattle.expander_sources.proofs.inline_module.has_attribute.Given as goal
+use Rattle.expander_model.specs.Definitions.{has_attribute}
+use Rattle.expander_model.proofs.definition.has_attribute.Given as goal
 
 abbrev pub invariant-loop-inner : goal.invariant-loop-inner
 invariant-loop-inner l = has_attribute l.word l.rest ≡ has_attribute l.word l.piece

@@ -1,7 +1,7 @@
 use Rattle.std.proofs.Common.{◌∙◌, ap, sym}
 use Rattle.std.specs.Prelude.{is_some}
-use Rattle.expander_sources.proofs.PartLemmas.{other_attribute}
-use Rattle.expander_sources.proofs.inline_module.has_attribute.Goals as goal
+use Rattle.expander_model.proofs.AttributeLemmas.{other_attribute}
+use Rattle.expander_model.proofs.definition.has_attribute.Goals as goal
 
 pub loop-inner-preserved : goal.loop-inner-preserved
 loop-inner-preserved c =
