@@ -7,7 +7,7 @@ use Rattle.ucd_derived.specs.XidContinueRanges.{xid_continue_ranges}
 use Rattle.ucd_derived.specs.XidStartRanges.{xid_start_ranges}
 use Rattle.ucd_table.specs.Rows.{in_ranges}
 use Rattle.expander.specs.NamedOptions.{no_options, with_named}
-use Rattle.filgordd.specs.Warnings.{misreads_in}
+use Rattle.filgordd.specs.Warnings.{warned_text}
 
 -- whether this option is set once these words are read
 abbrev is_set : List ℕ → Option (List ℕ) → List (List ℕ) → Option Bool
@@ -27,7 +27,7 @@ a_wrong_word = refl
 
 -- where the attributes begin that a warning is given for, where no option is set
 abbrev starts : List ℕ → List ℕ
-starts text = map (λ s. s.range.start) (misreads_in no_options text)
+starts text = map (λ s. s.range.start) (warned_text (Some no_options) text)
 
 at_the_top : starts (codes "#[cfg(not(a, b))] fn f() {} #[cfg(c)] #[cfg(a::b)] fn g() {}") ≡ 2 ∷ 40 ∷ []
 unfolding chars is_utf8 is_xid_start is_xid_continue in_ranges xid_start_ranges xid_continue_ranges encode_utf8
@@ -44,3 +44,23 @@ not_in_definitions = refl
 not_in_arguments : starts (codes "u!{ #[cfg()] fn f() {} }") ≡ []
 unfolding chars is_utf8 is_xid_start is_xid_continue in_ranges xid_start_ranges xid_continue_ranges encode_utf8
 not_in_arguments = refl
+
+-- where the names of definitions stand that a warning is given for, without options
+abbrev repeats : List ℕ → List ℕ
+repeats text = map (λ s. s.range.start) (warned_text None text)
+
+of_one_name : repeats (codes "#[cfg(a)] macro_rules! m {} #[cfg(not(a))] macro_rules! m {}") ≡ 56 ∷ []
+unfolding chars is_utf8 is_xid_start is_xid_continue in_ranges xid_start_ranges xid_continue_ranges encode_utf8
+of_one_name = refl
+
+one_without_a_condition : repeats (codes "#[cfg(a)] macro_rules! m {} macro_rules! m {}") ≡ []
+unfolding chars is_utf8 is_xid_start is_xid_continue in_ranges xid_start_ranges xid_continue_ranges encode_utf8
+one_without_a_condition = refl
+
+of_two_names : repeats (codes "#[cfg(a)] macro_rules! m {} #[cfg(b)] macro_rules! n {}") ≡ []
+unfolding chars is_utf8 is_xid_start is_xid_continue in_ranges xid_start_ranges xid_continue_ranges encode_utf8
+of_two_names = refl
+
+in_two_lists : repeats (codes "#[cfg(a)] macro_rules! m {} mod b { #[cfg(a)] macro_rules! m {} #[cfg(b)] macro_rules! m {} }") ≡ 87 ∷ []
+unfolding chars is_utf8 is_xid_start is_xid_continue in_ranges xid_start_ranges xid_continue_ranges encode_utf8
+in_two_lists = refl

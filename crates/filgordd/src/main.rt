@@ -10,7 +10,6 @@ mod job;
 mod layout;
 mod library;
 mod load;
-mod misread;
 mod other;
 mod picks;
 mod place;
@@ -18,6 +17,7 @@ mod request;
 mod shown;
 mod source;
 mod view;
+mod warned;
 mod warnings;
 mod work;
 

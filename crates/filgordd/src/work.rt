@@ -104,19 +104,22 @@ struct Task {
     place: Option<Place>,
 }
 
-// Warns of conditions of a text that cannot be read, where options are set. `name` is its file's.
-// Of a text in which the letters `cfg` are not, nothing is to be read.
+// Whether a text may have something to warn of: the letters `cfg`, and without options those of
+// definitions.
+fn may_warn(options: &Options<AnyGrammar>, text: &str) -> bool {
+    let has_definitions = options.dialect.cfg.is_some() || text.contains("macro");
+    text.len() <= u32::MAX as usize && has_definitions && text.contains("cfg")
+}
+
+// Warns of a text for its conditions. `name` is its file's.
 fn warn(rt: &HostRuntime, options: &Options<AnyGrammar>, name: &str, text: &[u8]) {
-    let Some(cfg) = &options.dialect.cfg else {
-        return;
-    };
     let Ok(text) = std::str::from_utf8(text) else {
         return;
     };
-    if text.len() > u32::MAX as usize || !text.contains("cfg") {
+    if !may_warn(options, text) {
         return;
     }
-    if let Ok(lines) = warnings(rt.alloc(), cfg, name, text) {
+    if let Ok(lines) = warnings(rt.alloc(), &options.dialect.cfg, name, text) {
         let _ = eprint!(rt; "{lines}");
     }
 }
