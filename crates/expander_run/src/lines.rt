@@ -1,7 +1,7 @@
 //! The lines in which a run reports its faults.
 ghost use Rattle.std.specs.Prelude.{◌≡◌, ◌++◌, ℕ, ◌≤◌, ◌<◌, ◌^◌, length, string_bytes, IfOk, OnOk};
 ghost use Rattle.expander_run.specs.Lines.{column_at, fault_lines, fault_words, line, line_at};
-ghost use Rattle.expander_run.specs.Lines.{line_of, read_fault_words, report, stop_line};
+ghost use Rattle.expander_run.specs.Lines.{line_of, read_fault_words, refusal_words, report, stop_line};
 ghost use Rattle.expander_run.specs.Lines.{stop_words};
 ghost use Rattle.expander_run.specs.Spots.{IsSpot};
 
@@ -107,6 +107,17 @@ pub fn read_fault_words(kind: ReadFaultKind) -> &'static str
         ReadFaultKind::BadToken => "bad token",
         ReadFaultKind::CloserDoesNotFit => "closing bracket does not fit",
         ReadFaultKind::GroupLeftOpen => "group left open",
+    }
+}
+
+/// The words for a refusal of a session.
+pub fn refusal_words(refusal: Refusal) -> &'static str
+    ensures { result.now ≡ refusal_words refusal }
+{
+    match refusal {
+        Refusal::Memory => "out of memory",
+        Refusal::Tokens => "too many tokens",
+        Refusal::Numbers => "too many definitions",
     }
 }
 

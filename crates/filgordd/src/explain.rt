@@ -7,8 +7,8 @@ use crate::view::reply_of;
 use any_grammar::AnyGrammar;
 use bridge::{Read, ReadFault, ReadFaultKind, read};
 use call_messages::{Place as TextPlace, Source, Unfit, push_plain, push_unfit};
-use expander::{Edition, Fault, FaultKind, Options, Prelude, Refusal, Reply};
-use expander_run::lines::{fault_words, read_fault_words};
+use expander::{Edition, Fault, FaultKind, Options, Prelude, Reply};
+use expander_run::lines::{fault_words, read_fault_words, refusal_words};
 use rustc_lexer::LexedText;
 use source_snippet::line_at;
 use std::alloc::{AllocError, Global};
@@ -220,15 +220,6 @@ fn messages(
         writeln!(out, "\n{more} more faults")?;
     }
     Ok((out, count))
-}
-
-// Why a session gives no reply.
-fn refusal_words(refusal: Refusal) -> &'static str {
-    match refusal {
-        Refusal::Memory => "out of memory",
-        Refusal::Tokens => "too many tokens",
-        Refusal::Numbers => "too many definitions",
-    }
 }
 
 // Prints messages. The status is 0 if there is none, else 1.

@@ -71,4 +71,4 @@ pub use home::edition_of;
 pub use line::{Line, Pick, Wrong};
 pub use picks::push_source;
 pub use script::{Answered, End, answer_script};
-pub use tell::wrong_words;
+pub use tell::{kind_name, read_kind_name, refusal_name, wrong_words};

@@ -14,7 +14,8 @@ use expander::{
 };
 use std::alloc::AllocError;
 
-fn kind_name(kind: FaultKind) -> &'static str
+/// The name of a kind of fault.
+pub fn kind_name(kind: FaultKind) -> &'static str
     ensures { result.now ≡ kind_name kind }
 {
     match kind {
@@ -27,7 +28,8 @@ fn kind_name(kind: FaultKind) -> &'static str
     }
 }
 
-fn read_kind_name(kind: ReadFaultKind) -> &'static str
+/// The name of a kind of reading fault.
+pub fn read_kind_name(kind: ReadFaultKind) -> &'static str
     ensures { result.now ≡ read_kind_name kind }
 {
     match kind {
@@ -37,7 +39,8 @@ fn read_kind_name(kind: ReadFaultKind) -> &'static str
     }
 }
 
-fn refusal_name(refusal: Refusal) -> &'static str
+/// The name of a refusal.
+pub fn refusal_name(refusal: Refusal) -> &'static str
     ensures { result.now ≡ refusal_name refusal }
 {
     match refusal {
