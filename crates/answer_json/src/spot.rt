@@ -1,5 +1,5 @@
 //! Positions of bytes, each counted on from the one before it.
-ghost use Rattle.std.specs.Prelude.{◌≡◌, ◌<◌, ◌^◌, length, min};
+ghost use Rattle.std.specs.Prelude.{◌≡◌, ◌≤◌, ◌<◌, ◌^◌, length, min};
 ghost use Rattle.answer_json.specs.Spots.{IsSpot};
 
 use line_index::{FIRST, Position, position_behind};
@@ -13,11 +13,27 @@ pub(crate) struct Spot {
 
 /// Where a text begins.
 pub(crate) fn first_spot(_text: &str) -> Spot
-    ensures { IsSpot _text.now result }
+    ensures spot { IsSpot _text.now result }
+    ensures first { result.at ≡ 0 }
 {
     Spot {
         at: 0,
         position: FIRST,
+    }
+}
+
+// A byte with its position, counted on from one before it.
+fn counted_on(text: &str, from: Spot, at: usize) -> Spot
+    requires short { length text.now < 2 ^ 32 }
+    requires from { IsSpot text.now from }
+    requires order { from.at ≤ at }
+    requires within { at ≤ length text.now }
+    ensures spot { IsSpot text.now result }
+    ensures at { result.at ≡ at }
+{
+    Spot {
+        at,
+        position: position_behind(text, from.at, from.position, at),
     }
 }
 

@@ -1,0 +1,4 @@
+-- lemmas by subject; the worked examples
+mod ListLemmas
+mod DepthLemmas
+mod Rows
