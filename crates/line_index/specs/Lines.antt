@@ -24,7 +24,8 @@ ends_line b rest = if nat_eq b 10 then true else if nat_eq b 13 then
 abbrev pub units : ℕ → ℕ
 units b = if nat_lt b 128 then 1 else if nat_lt b 192 then 0 else if nat_lt b 240 then 1 else 2
 
--- where a line begins, from line 0 on: behind as many line ends. A text with fewer lines ends there.
+-- where a line begins, from line 0 on: behind as many line ends. A text with fewer lines ends
+-- there.
 abbrev pub line_start : List ℕ → ℕ → ℕ
 line_start text zero = 0
 line_start [] (suc line) = 0
@@ -60,4 +61,5 @@ IsPositionOf text at p = (p.line ≡ line_of text at) × (p.column ≡ column_of
 -- a byte is within a line end of two bytes
 abbrev pub IsWithinEnd : List ℕ → ℕ → Type 0
 IsWithinEnd text zero = ⊥
-IsWithinEnd text (suc before) = (slice_index text before ≡ 13) × (slice_index text (suc before) ≡ 10)
+IsWithinEnd text (suc before) =
+    (slice_index text before ≡ 13) × (slice_index text (suc before) ≡ 10)
