@@ -46,13 +46,8 @@ pub(crate) fn spot_of(text: &str, last: Spot, at: u32) -> Spot
     ensures at { result.at ≡ min at (length text.now) }
 {
     let at = text.len().min(at as usize);
-    let from = if last.at <= at {
-        last
-    } else {
-        first_spot(text)
-    };
-    Spot {
-        at,
-        position: position_behind(text, from.at, from.position, at),
+    if last.at <= at {
+        return counted_on(text, last, at);
     }
+    counted_on(text, first_spot(text), at)
 }
