@@ -22,3 +22,21 @@ no_deeper : {X : Type 0} (f : X → Data) (n : ℕ) → ((x : X) → depth (f x)
     → items_depth (items_of (map f xs)) ≤ n
 no_deeper f n all [] = omega arith
 no_deeper f n all (x ∷ xs) = grind (arith, all x, no_deeper f n all xs)
+
+natural_float : (n : ℕ) → has_float (natural n) ≡ false
+natural_float n = refl
+
+natural_depth : (n : ℕ) → depth (natural n) ≤ 3
+natural_depth n = omega arith
+
+string_float : (s : List ℕ) → has_float (string s) ≡ false
+string_float s = refl
+
+string_depth : (s : List ℕ) → depth (string s) ≤ 3
+string_depth s = omega arith
+
+fault_float : (text : List ℕ) (f : Fault) → has_float (fault text f) ≡ false
+fault_float text f = refl
+
+fault_depth : (text : List ℕ) (f : Fault) → depth (fault text f) ≤ 3
+fault_depth text f = omega arith
