@@ -2,22 +2,31 @@
 //! expansion as a page, or answers a script of edits and expansions.
 #![tactic(auto)]
 
+mod chosen;
 mod command;
 mod conditions;
+mod crates;
+mod disk;
 mod explain;
 mod files;
+mod imports;
 mod job;
+mod lacking;
 mod layout;
 mod library;
+mod listing;
 mod load;
 mod misread;
 mod other;
 mod picks;
 mod place;
+mod renamed;
 mod request;
 mod shown;
 mod source;
+mod spots;
 mod view;
+mod walked;
 mod warnings;
 mod work;
 

@@ -1,0 +1,199 @@
+//! Lists the definitions that are in scope at the end of a file.
+ghost use Rattle.std.specs.Prelude.{◌<◌, length};
+
+use crate::imports::{Import, name_at};
+use crate::lacking::{below, text_of};
+use crate::load::{Loaded, Sources};
+use crate::shown::push_shown;
+use crate::spots::{Spot, Spots};
+use crate::walked::Walked;
+use crate_walk::{Event, MacroItem, Modules, Place};
+use expander::Source;
+use std::alloc::{AllocError, Global};
+
+/// Lines for definitions: the name of each, where it is, and where it comes from.
+#[derive(Drop)]
+pub(crate) struct Listing<'a> {
+    alloc: Global,
+    // The folder that is not told of files in it.
+    folder: &'a str,
+    lines: String,
+    sources: Spots,
+    files: Spots,
+}
+
+// Whether a definition of a source is seen by its name: one of a library where it is exported, and
+// one of another file where it is in no module.
+fn is_seen(source: &Source, i: usize, is_library: bool) -> bool
+    requires { i < length source.now.items }
+{
+    if source.has_attribute(i, "rustc_builtin_macro") {
+        return false;
+    }
+    if is_library {
+        source.has_attribute(i, "macro_export")
+    } else {
+        source.modules(i).is_empty()
+    }
+}
+
+// Where the name of the definition at a place begins.
+fn start_at(modules: &Modules, place: Place) -> usize {
+    match modules.event(place) {
+        Some(Event::Macro(item)) => item.start as usize,
+        _ => 0,
+    }
+}
+
+impl<'a> Listing<'a> {
+    // No line, for these sources and files.
+    fn new(
+        alloc: Global,
+        folder: &'a str,
+        sources: usize,
+        files: usize,
+    ) -> Result<Listing<'a>, AllocError> {
+        Ok(Listing {
+            alloc,
+            folder,
+            lines: String::new(alloc),
+            sources: Spots::new(alloc, sources)?,
+            files: Spots::new(alloc, files)?,
+        })
+    }
+
+    // Adds the line of a definition.
+    fn push(&mut self, name: &str, file: &str, spot: Spot, from: &str) -> Result<(), AllocError> {
+        push_shown(&mut self.lines, name)?;
+        self.lines.push(' ')?;
+        push_shown(&mut self.lines, file)?;
+        let end = format!(in self.alloc; ":{}:{} {from}\n", spot.line, spot.column)?;
+        self.lines.push_str(end.as_str())
+    }
+
+    // Adds the definitions of a source, which is the one of this index.
+    fn push_source(
+        &mut self,
+        index: usize,
+        source: &Source,
+        loaded: &Loaded,
+        is_library: bool,
+    ) -> Result<(), AllocError> {
+        let from = if is_library { "std" } else { "with" };
+        for i in 0..source.len() {
+            if is_seen(source, i, is_library) {
+                let start = source.name_range(i).start as usize;
+                let spot = self.sources.spot(index, loaded.text.as_str(), start);
+                self.push(source.name(i), loaded.name.as_str(), spot, from)?;
+            }
+        }
+        Ok(())
+    }
+
+    // Adds the definitions of sources, of which the first has this index.
+    fn push_sources(
+        &mut self,
+        first: usize,
+        sources: &[Source],
+        loaded: &[Loaded],
+        is_library: bool,
+    ) -> Result<(), AllocError> {
+        for (i, source) in sources.iter().enumerate() {
+            let index = first.saturating_add(i);
+            if let Some(loaded) = loaded.get(index) {
+                self.push_source(index, source, loaded, is_library)?;
+            }
+        }
+        Ok(())
+    }
+
+    // Adds the definition at a place, which has this name in the file.
+    fn push_place(
+        &mut self,
+        modules: &Modules,
+        place: Place,
+        name: &str,
+        from: &str,
+    ) -> Result<(), AllocError> {
+        let text = text_of(modules, place.file);
+        let spot = self.files.spot(place.file, text, start_at(modules, place));
+        let file = below(self.folder, modules.file_name(place.file).unwrap_or(""));
+        self.push(name, file, spot, from)
+    }
+
+    // Adds what a file sees by its place.
+    fn push_places(&mut self, modules: &Modules, places: &[Place]) -> Result<(), AllocError> {
+        for place in places {
+            if let Some(name) = name_at(modules, *place) {
+                self.push_place(modules, *place, name, "scope")?;
+            }
+        }
+        Ok(())
+    }
+
+    // Adds what a file imports.
+    fn push_imports(&mut self, modules: &Modules, imports: &[Import]) -> Result<(), AllocError> {
+        for import in imports {
+            self.push_place(modules, import.place, import.name.as_str(), "use")?;
+        }
+        Ok(())
+    }
+
+    // Adds a definition of the file itself.
+    fn push_item(
+        &mut self,
+        modules: &Modules,
+        place: Place,
+        item: &MacroItem,
+    ) -> Result<(), AllocError> {
+        self.push_place(modules, place, item.name.as_str(), "own")
+    }
+
+    // Adds the definitions of a file itself that are in scope at its end.
+    fn push_own(&mut self, modules: &Modules, file: usize) -> Result<(), AllocError> {
+        let Some(content) = modules.content(file) else {
+            return Ok(());
+        };
+        let mut next = 0;
+        for (i, event) in content.events().iter().enumerate() {
+            match event {
+                _ if i < next => {}
+                Event::Macro(item) => {
+                    let place = Place { file, event: i };
+                    self.push_item(modules, place, item)?;
+                }
+                Event::Inline(item, count) if !item.keeps_macros => {
+                    next = i.saturating_add(*count).saturating_add(1);
+                }
+                _ => {}
+            }
+        }
+        Ok(())
+    }
+}
+
+/// The lines for the definitions that are in scope at the end of a file, the nearest last: those
+/// of the library, of other files, of the file's place in the crate, of its imports, and its own.
+pub(crate) fn listed(
+    alloc: Global,
+    sources: &Sources,
+    walked: &Walked,
+    file: usize,
+    folder: &str,
+) -> Result<String, AllocError> {
+    let modules = &walked.modules;
+    let loaded = sources.files.as_slice();
+    let mut listing = Listing::new(alloc, folder, loaded.len(), modules.file_count())?;
+    listing.push_sources(0, sources.library.as_slice(), loaded, true)?;
+    listing.push_sources(
+        sources.library.len(),
+        sources.with.as_slice(),
+        loaded,
+        false,
+    )?;
+    listing.push_places(modules, walked.seen.places(file))?;
+    listing.push_imports(modules, walked.imports.of_file(alloc, file)?.as_slice())?;
+    listing.push_own(modules, file)?;
+    let Listing { lines, .. } = listing;
+    Ok(lines)
+}
