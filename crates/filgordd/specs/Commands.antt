@@ -51,6 +51,14 @@ layout_rule = record (new_rule (codes "layout")) {
 abbrev pub crate_rule : Rule
 crate_rule = record (new_rule (codes "crate")) { long = Some (codes "crate"); value_names = 1 }
 
+-- other crates: an option that may be used any number of times
+abbrev pub extern_rule : Rule
+extern_rule = record (new_rule (codes "extern")) {
+  long = Some (codes "extern");
+  value_names = 1;
+  action = Some Append;
+}
+
 -- the files, which have no name on the command line
 abbrev pub file_rule : Rule
 file_rule = record (new_rule (codes "file")) { value_names = 1; action = Some Append }
@@ -96,17 +104,21 @@ pub record IsTextSubcommand (name : Text) (shape : Shape) : Type 0 where
   pub is_base : IsSubcommand name base
   pub shape_is : shape ≡ on_text base
 
+-- a subcommand that takes files of a crate, and other crates
+abbrev pub in_crate : Shape → Shape
+in_crate s = with_more crate_rule (with_more extern_rule s)
+
 -- `expand`, which may lay out what it prints, and takes files of a crate
 pub record IsExpandSubcommand (shape : Shape) : Type 0 where
   pub base : Shape
   pub is_base : IsTextSubcommand (codes "expand") base
-  pub shape_is : shape ≡ with_more crate_rule (with_more layout_rule base)
+  pub shape_is : shape ≡ in_crate (with_more layout_rule base)
 
 -- `macros`, which takes files of a crate
 pub record IsMacrosSubcommand (shape : Shape) : Type 0 where
   pub base : Shape
   pub is_base : IsTextSubcommand (codes "macros") base
-  pub shape_is : shape ≡ with_more crate_rule base
+  pub shape_is : shape ≡ in_crate base
 
 -- the program: one of its five subcommands has to be named
 abbrev pub program_shape : Shape
@@ -162,8 +174,8 @@ pub record ChosenBy (rows : List Row) (options : Options AnyGrammar) : Type 0 wh
   pub chosen : Chosen grammar edition scope depth calls tokens options
 
 -- what they ask for: a job with these options, laid out or not, and, each as its word names it, a
--- folder of libraries, other files in order, options of `cfg`, a text, all texts in order, and the
--- root of a crate
+-- folder of libraries, other files in order, options of `cfg`, a text, all texts in order,
+-- other crates in order, and the root of a crate
 pub record AsksBy (rows : List Row) (job : Job) : Type 0 where
   pub options : ChosenBy rows job.options
   pub has_layout : IsFlag (one_of (codes "layout") rows) job.layout
@@ -172,6 +184,7 @@ pub record AsksBy (rows : List Row) (job : Job) : Type 0 where
   pub has_cfg : unwrap_or (all_of (codes "cfg") rows) [] ≡ map (λ s. s.now) job.cfg.items
   pub has_file : IsFile (first_of (codes "file") rows) (option_map (λ s. s.now) job.file)
   pub has_files : unwrap_or (all_of (codes "file") rows) [] ≡ map (λ s. s.now) job.files.items
+  pub has_externs : unwrap_or (all_of (codes "extern") rows) [] ≡ map (λ s. s.now) job.externs.items
   pub has_root : first_of (codes "crate") rows ≡ option_map (λ s. s.now) job.root
 
 -- the subcommand that was named, and its values, ask for this job

@@ -4,7 +4,7 @@ ghost use Rattle.clap.specs.Words.{app_of, rule_of, shape_of};
 ghost use Rattle.clap.specs.declared.builder.command.Command.TheViews.{out-Command as fields_of};
 ghost use Rattle.clap.specs.declared.builder.value_parser.ValueParser.{ValueParser};
 ghost use Rattle.filgordd.specs.Commands.{ChoosesLanguage, IsExpandSubcommand, IsMacrosSubcommand, IsProgram, IsSubcommand, IsTextSubcommand};
-ghost use Rattle.filgordd.specs.Commands.{bare_program, cfg_rule, crate_rule, file_rule, layout_rule, library_rule, option_rule, with_rule};
+ghost use Rattle.filgordd.specs.Commands.{bare_program, cfg_rule, crate_rule, extern_rule, file_rule, layout_rule, library_rule, option_rule, with_rule};
 
 use clap::{Arg, ArgAction, Command, value_parser};
 use std::alloc::{AllocError, Global};
@@ -156,6 +156,17 @@ fn root<'a>(alloc: Global) -> Arg<'a>
         )
 }
 
+fn other_crate<'a>(alloc: Global) -> Arg<'a>
+    ensures rule { rule_of result ≡ extern_rule }
+    ensures own { result.global ≡ false }
+{
+    Arg::new(alloc, "extern")
+        .long("extern")
+        .value_name("NAME@EDITION=ROOT")
+        .action(ArgAction::Append)
+        .help("The root file of another crate, whose macros the crate may call; may be repeated")
+}
+
 fn file<'a>(alloc: Global) -> Arg<'a>
     ensures rule { rule_of result ≡ file_rule }
     ensures own { result.global ≡ false }
@@ -217,6 +228,7 @@ fn expand_subcommand<'a>(alloc: Global) -> Result<Command<'a>, AllocError>
     let about = "Prints the expansion of a text, and reports its faults";
     text_subcommand(alloc, "expand", about)?
         .arg(layout(alloc))?
+        .arg(other_crate(alloc))?
         .arg(root(alloc))
 }
 
@@ -226,7 +238,9 @@ fn macros_subcommand<'a>(alloc: Global) -> Result<Command<'a>, AllocError>
     ensures own { IfOk result (λ c. (fields_of c).has_globals ≡ false) }
 {
     let about = "Lists the macros that files of a crate see, the nearest last";
-    text_subcommand(alloc, "macros", about)?.arg(root(alloc))
+    text_subcommand(alloc, "macros", about)?
+        .arg(other_crate(alloc))?
+        .arg(root(alloc))
 }
 
 // The program's command without its subcommands.

@@ -4,27 +4,22 @@ use crate::chosen::{Chosen, chosen_files};
 use crate::conditions::cfg_of;
 use crate::disk::{Disk, code_in};
 use crate::files::{misused, opened, refused};
-use crate::imports::Import;
 use crate::job::{Action, Job};
-use crate::lacking::{tell_lacks, text_of};
+use crate::lacking::tell_lacks;
 use crate::layout::{Run, laid_out, run_in_memory};
 use crate::listing::listed;
-use crate::load::{Ended, Sources, fault_words, prelude_of, refusal, sources_of};
-use crate::renamed::push_renamed;
+use crate::load::{Ended, fault_words, refusal};
 use crate::shown::push_shown;
-use crate::walked::{Walked, crate_from};
+use crate::whole::{Whole, prelude_of_file, whole_from};
 use crate::work::warn;
 use any_grammar::AnyGrammar;
 use cfg_options::CfgOptions;
-use crate_picks::push_places;
-use crate_walk::{Content, Event};
+use crate_walk::Content;
 use expander::{Dialect, Options, Prelude, Watched};
 use expander_run::program::put;
-use std::alloc::Global;
 use std::io::Write;
 use std::process::ExitCode;
 use std::{env, io};
-use tt_data::TtFault;
 
 // The set of the options that a job's words for `cfg` name: an empty one without a word.
 fn set_of(rt: &HostRuntime, job: &Job<'_>) -> Result<CfgOptions, Ended> {
@@ -58,54 +53,6 @@ fn folder_of(rt: &HostRuntime) -> Result<String, Ended> {
         Ok(folder) => Ok(folder.into_string()),
         Err(_) => Ok(String::new(rt.alloc())),
     }
-}
-
-// Adds an import, under the name that it has in its file.
-fn push_import(
-    alloc: Global,
-    walked: &Walked,
-    import: &Import,
-    prelude: &mut Prelude,
-) -> Result<(), TtFault> {
-    let modules = &walked.modules;
-    let Some(Event::Macro(item)) = modules.event(import.place) else {
-        return Ok(());
-    };
-    if item.name == import.name {
-        let places = [import.place];
-        return push_places(
-            alloc,
-            modules,
-            walked.definitions.as_slice(),
-            &places,
-            prelude,
-        );
-    }
-    let text = text_of(modules, import.place.file);
-    match walked.definitions.get(import.place.file) {
-        Some(Some(definitions)) => {
-            let name = import.name.as_str();
-            push_renamed(alloc, definitions, text, item.start as usize, name, prelude)
-        }
-        _ => Ok(()),
-    }
-}
-
-// The definitions that a file of a crate is expanded after.
-fn prelude_at(
-    alloc: Global,
-    sources: &Sources,
-    walked: &Walked,
-    file: usize,
-) -> Result<Prelude, TtFault> {
-    let mut prelude = prelude_of(alloc, sources)?;
-    let places = walked.seen.places(file);
-    let definitions = walked.definitions.as_slice();
-    push_places(alloc, &walked.modules, definitions, places, &mut prelude)?;
-    for import in &walked.imports.of_file(alloc, file)? {
-        push_import(alloc, walked, import, &mut prelude)?;
-    }
-    Ok(prelude)
 }
 
 // Reports the faults of a run, each with the name of its file.
@@ -186,18 +133,17 @@ fn expand_unread(rt: &HostRuntime, job: &Job<'_>, shown: &str, name: &str) -> Re
 fn expand_file(
     rt: &HostRuntime,
     job: &Job<'_>,
-    sources: &Sources,
-    walked: &Walked,
+    whole: &Whole,
     file: usize,
     shown: &str,
 ) -> Result<bool, Ended> {
-    match walked.modules.content(file) {
-        Some(Content::Text(text, _)) => match prelude_at(rt.alloc(), sources, walked, file) {
+    match whole.walked.modules.content(file) {
+        Some(Content::Text(text, _)) => match prelude_of_file(rt.alloc(), whole, file) {
             Ok(prelude) => expand_text(rt, job, shown, prelude, text.as_bytes()),
             Err(fault) => refusal(rt, shown, fault_words(fault)),
         },
         _ => {
-            let name = walked.modules.file_name(file).unwrap_or(shown);
+            let name = whole.walked.modules.file_name(file).unwrap_or(shown);
             expand_unread(rt, job, shown, name)
         }
     }
@@ -215,13 +161,12 @@ fn tell_stranger(rt: &HostRuntime, shown: &str) -> io::Result<ExitCode> {
 fn list_file(
     rt: &HostRuntime,
     job: &Job<'_>,
-    sources: &Sources,
-    walked: &Walked,
+    whole: &Whole,
     file: usize,
     shown: &str,
 ) -> Result<bool, Ended> {
     let folder = folder_of(rt)?;
-    let lines = listed(rt.alloc(), sources, walked, file, folder.as_str())?;
+    let lines = listed(rt.alloc(), whole, file, folder.as_str())?;
     let mut writer = Watched::new(rt.stdout());
     put_head(rt, &mut writer, job, shown)?;
     if put(&mut writer, lines.as_bytes()) {
@@ -235,16 +180,13 @@ fn list_file(
 fn answer_file(
     rt: &HostRuntime,
     job: &Job<'_>,
-    sources: &Sources,
-    walked: &Walked,
+    whole: &Whole,
     chosen: &Chosen,
 ) -> Result<bool, Ended> {
     let shown = chosen.shown.as_str();
     match chosen.file {
-        Some(file) if job.action == Action::Macros => {
-            list_file(rt, job, sources, walked, file, shown)
-        }
-        Some(file) => expand_file(rt, job, sources, walked, file, shown),
+        Some(file) if job.action == Action::Macros => { list_file(rt, job, whole, file, shown) }
+        Some(file) => expand_file(rt, job, whole, file, shown),
         None => {
             tell_stranger(rt, shown)?;
             Ok(false)
@@ -259,17 +201,16 @@ pub(crate) fn perform_crate(
     root: &str,
 ) -> Result<ExitCode, Ended> {
     let set = set_of(rt, job)?;
-    let sources = sources_of(rt, job)?;
     let disk = Disk { rt, options: &set };
-    let last = sources.files.len().min(1000) as u32;
-    let walked = crate_from(rt, &disk, root, last)?;
+    let whole = whole_from(rt, job, &disk, root)?;
+    let modules = &whole.walked.modules;
     let folder = folder_of(rt)?;
-    tell_lacks(rt, &walked.modules, folder.as_str())?;
+    tell_lacks(rt, modules, folder.as_str())?;
     let words = job.files.as_slice();
-    let files = chosen_files(rt.alloc(), &disk, &walked.modules, words, folder.as_str())?;
+    let files = chosen_files(rt.alloc(), &disk, modules, words, folder.as_str())?;
     let mut faultless = true;
     for chosen in &files {
-        faultless &= answer_file(rt, job, &sources, &walked, chosen)?;
+        faultless &= answer_file(rt, job, &whole, chosen)?;
     }
     Ok(if faultless {
         ExitCode::SUCCESS

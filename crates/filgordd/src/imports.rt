@@ -4,7 +4,8 @@ use crate_imports::{Offers, Target};
 use crate_walk::{Event, Modules, Place};
 use std::alloc::{AllocError, Global};
 
-/// A definition of another file that has this name in a file.
+/// A name that a file has by path, and where it leads: to a definition of another file, or to an
+/// import of something from another crate.
 #[derive(Drop)]
 pub(crate) struct Import {
     pub(crate) name: String,
@@ -66,14 +67,37 @@ impl Imports {
             return Ok(());
         };
         for (name, target) in macros {
-            if let Target::Macro(place) = *target
-                && place.file != file
-            {
-                let name = String::from_str(alloc, name.as_str())?;
-                all.push(Import { name, place })?;
-            }
+            let place = match *target {
+                Target::Macro(place) if place.file != file => place,
+                Target::Other(place) => place,
+                _ => continue,
+            };
+            let name = String::from_str(alloc, name.as_str())?;
+            all.push(Import { name, place })?;
         }
         Ok(())
+    }
+
+    /// Where the definition is that the root offers under this name.
+    pub(crate) fn export(&self, name: &str) -> Option<Place> {
+        match self.offers.macros_of(0)?.get(name) {
+            Some(Target::Macro(place)) => Some(*place),
+            _ => None,
+        }
+    }
+
+    /// Where the definitions are that the root offers, in the order of their names.
+    pub(crate) fn exports(&self, alloc: Global) -> Result<Vec<Place>, AllocError> {
+        let mut places = Vec::new(alloc);
+        let Some(macros) = self.offers.macros_of(0) else {
+            return Ok(places);
+        };
+        for (_, target) in macros {
+            if let Target::Macro(place) = *target {
+                places.push(place)?;
+            }
+        }
+        Ok(places)
     }
 
     /// The definitions of other files that the modules in a file have by path.

@@ -57,6 +57,8 @@ pub(crate) struct Job<'a> {
     pub(crate) file: Option<&'a str>,
     /// The paths of all files that were named, in order.
     pub(crate) files: Vec<&'a str>,
+    /// The words for other crates, in order.
+    pub(crate) externs: Vec<&'a str>,
     /// The root of the crate that they are files of.
     pub(crate) root: Option<&'a str>,
 }

@@ -1,12 +1,13 @@
 //! Lists the definitions that are in scope at the end of a file.
 ghost use Rattle.std.specs.Prelude.{◌<◌, length};
 
+use crate::externs::Extern;
 use crate::imports::{Import, name_at};
 use crate::lacking::{below, text_of};
-use crate::load::{Loaded, Sources};
+use crate::load::Loaded;
 use crate::shown::push_shown;
 use crate::spots::{Spot, Spots};
-use crate::walked::Walked;
+use crate::whole::Whole;
 use crate_walk::{Event, MacroItem, Modules, Place};
 use expander::Source;
 use std::alloc::{AllocError, Global};
@@ -20,6 +21,7 @@ pub(crate) struct Listing<'a> {
     lines: String,
     sources: Spots,
     files: Spots,
+    externs: Vec<Spots>,
 }
 
 // Whether a definition of a source is seen by its name: one of a library where it is exported, and
@@ -45,6 +47,15 @@ fn start_at(modules: &Modules, place: Place) -> usize {
     }
 }
 
+// No spot of the files of other crates.
+fn spots_of(alloc: Global, externs: &[Extern]) -> Result<Vec<Spots>, AllocError> {
+    let mut all = Vec::new(alloc);
+    for one in externs {
+        all.push(Spots::new(alloc, one.walked.modules.file_count())?)?;
+    }
+    Ok(all)
+}
+
 impl<'a> Listing<'a> {
     // No line, for these sources and files.
     fn new(
@@ -52,6 +63,7 @@ impl<'a> Listing<'a> {
         folder: &'a str,
         sources: usize,
         files: usize,
+        externs: &[Extern],
     ) -> Result<Listing<'a>, AllocError> {
         Ok(Listing {
             alloc,
@@ -59,6 +71,7 @@ impl<'a> Listing<'a> {
             lines: String::new(alloc),
             sources: Spots::new(alloc, sources)?,
             files: Spots::new(alloc, files)?,
+            externs: spots_of(alloc, externs)?,
         })
     }
 
@@ -121,20 +134,75 @@ impl<'a> Listing<'a> {
         self.push(name, file, spot, from)
     }
 
+    // Adds the definition at a place of the other crate of this index.
+    fn push_extern(&mut self, index: usize, one: &Extern, place: Place) -> Result<(), AllocError> {
+        let modules = &one.walked.modules;
+        let text = text_of(modules, place.file);
+        let Some(spots) = self.externs.get_mut(index) else {
+            return Ok(());
+        };
+        let spot = spots.spot(place.file, text, start_at(modules, place));
+        let file = below(self.folder, modules.file_name(place.file).unwrap_or(""));
+        let name = name_at(modules, place).unwrap_or("");
+        self.push(name, file, spot, "extern")
+    }
+
+    // Adds what an event brings of other crates.
+    fn push_event(&mut self, externs: &[Extern], event: &Event) -> Result<(), AllocError> {
+        for (index, one) in externs.iter().enumerate() {
+            for place in &one.brought(self.alloc, event)? {
+                self.push_extern(index, one, *place)?;
+            }
+        }
+        Ok(())
+    }
+
+    // Adds the definition at a place, under this name or its own, or what the place brings of
+    // other crates.
+    fn push_found(
+        &mut self,
+        whole: &Whole,
+        place: Place,
+        name: Option<&str>,
+        from: &str,
+    ) -> Result<(), AllocError> {
+        let modules = &whole.walked.modules;
+        match modules.event(place) {
+            Some(Event::Macro(item)) => {
+                let name = name.unwrap_or(item.name.as_str());
+                self.push_place(modules, place, name, from)
+            }
+            Some(event) => self.push_event(whole.externs.as_slice(), event),
+            None => Ok(()),
+        }
+    }
+
     // Adds what a file sees by its place.
-    fn push_places(&mut self, modules: &Modules, places: &[Place]) -> Result<(), AllocError> {
+    fn push_places(&mut self, whole: &Whole, places: &[Place]) -> Result<(), AllocError> {
         for place in places {
-            if let Some(name) = name_at(modules, *place) {
-                self.push_place(modules, *place, name, "scope")?;
+            self.push_found(whole, *place, None, "scope")?;
+        }
+        Ok(())
+    }
+
+    // Adds what a file itself brings of other crates by `extern crate`.
+    fn push_crates(&mut self, whole: &Whole, file: usize) -> Result<(), AllocError> {
+        let Some(content) = whole.walked.modules.content(file) else {
+            return Ok(());
+        };
+        for event in content.events() {
+            if let Event::Crate(_) = event {
+                self.push_event(whole.externs.as_slice(), event)?;
             }
         }
         Ok(())
     }
 
     // Adds what a file imports.
-    fn push_imports(&mut self, modules: &Modules, imports: &[Import]) -> Result<(), AllocError> {
+    fn push_imports(&mut self, whole: &Whole, imports: &[Import]) -> Result<(), AllocError> {
         for import in imports {
-            self.push_place(modules, import.place, import.name.as_str(), "use")?;
+            let name = Some(import.name.as_str());
+            self.push_found(whole, import.place, name, "use")?;
         }
         Ok(())
     }
@@ -176,14 +244,24 @@ impl<'a> Listing<'a> {
 /// of the library, of other files, of the file's place in the crate, of its imports, and its own.
 pub(crate) fn listed(
     alloc: Global,
-    sources: &Sources,
-    walked: &Walked,
+    whole: &Whole,
     file: usize,
     folder: &str,
 ) -> Result<String, AllocError> {
+    let Whole {
+        sources,
+        walked,
+        ..
+    } = whole;
     let modules = &walked.modules;
     let loaded = sources.files.as_slice();
-    let mut listing = Listing::new(alloc, folder, loaded.len(), modules.file_count())?;
+    let mut listing = Listing::new(
+        alloc,
+        folder,
+        loaded.len(),
+        modules.file_count(),
+        whole.externs.as_slice(),
+    )?;
     listing.push_sources(0, sources.library.as_slice(), loaded, true)?;
     listing.push_sources(
         sources.library.len(),
@@ -191,8 +269,9 @@ pub(crate) fn listed(
         loaded,
         false,
     )?;
-    listing.push_places(modules, walked.seen.places(file))?;
-    listing.push_imports(modules, walked.imports.of_file(alloc, file)?.as_slice())?;
+    listing.push_places(whole, walked.seen.places(file))?;
+    listing.push_crates(whole, file)?;
+    listing.push_imports(whole, walked.imports.of_file(alloc, file)?.as_slice())?;
     listing.push_own(modules, file)?;
     let Listing { lines, .. } = listing;
     Ok(lines)

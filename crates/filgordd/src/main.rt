@@ -8,6 +8,7 @@ mod conditions;
 mod crates;
 mod disk;
 mod explain;
+mod externs;
 mod files;
 mod imports;
 mod job;
@@ -28,6 +29,7 @@ mod spots;
 mod view;
 mod walked;
 mod warnings;
+mod whole;
 mod work;
 
 use crate::files::misused;

@@ -6,8 +6,8 @@ use crate::load::{Ended, after, fault_words, refusal};
 use crate_imports::offers_of;
 use crate_picks::{Definitions, FilePicks};
 use crate_walk::{Content, Event, Modules, textual_picks, walk_crate};
-use expander::{Source, SourceRead};
-use std::alloc::Global;
+use expander::{Home, Source, SourceRead};
+use std::alloc::{AllocError, Global};
 use std::process::ExitCode;
 use tt_data::TtFault;
 
@@ -29,14 +29,27 @@ fn has_definitions(events: &[Event]) -> bool {
     events.iter().any(|event| matches!(event, Event::Macro(_)))
 }
 
-// The definitions of a text, as the source with this number.
-fn definitions_in(alloc: Global, text: &str, number: u32) -> Result<Option<Definitions>, TtFault>
+// The same home.
+fn home_of(alloc: Global, home: Option<&Home>) -> Result<Option<Home>, AllocError> {
+    match home {
+        Some(home) => Ok(Some(home.try_clone(alloc)?)),
+        None => Ok(None),
+    }
+}
+
+// The definitions of a text, as the source with this number, of this home.
+fn definitions_in(
+    alloc: Global,
+    text: &str,
+    number: u32,
+    home: Option<&Home>,
+) -> Result<Option<Definitions>, TtFault>
     requires { 1 ≤ number }
 {
     if text.len() > u32::MAX as usize {
         return Ok(None);
     }
-    match Source::new(alloc, text, number, None)? {
+    match Source::new(alloc, text, number, home_of(alloc, home)?)? {
         SourceRead::Read(source) => Ok(Some(Definitions::new(alloc, source)?)),
         SourceRead::Unread(_) => Ok(None),
     }
@@ -47,12 +60,13 @@ fn definitions_of(
     alloc: Global,
     content: Option<&Content>,
     number: u32,
+    home: Option<&Home>,
 ) -> Result<Option<Definitions>, TtFault>
     requires { 1 ≤ number }
 {
     match content {
         Some(Content::Text(text, events)) if has_definitions(events.as_slice()) => {
-            definitions_in(alloc, text.as_str(), number)
+            definitions_in(alloc, text.as_str(), number, home)
         }
         _ => Ok(None),
     }
@@ -63,12 +77,13 @@ fn all_definitions(
     rt: &HostRuntime,
     modules: &Modules,
     last: u32,
+    home: Option<&Home>,
 ) -> Result<Vec<Option<Definitions>>, Ended> {
     let mut all = Vec::new(rt.alloc());
     let mut number = last;
     for file in 0..modules.file_count() {
         number = after(number)?;
-        match definitions_of(rt.alloc(), modules.content(file), number) {
+        match definitions_of(rt.alloc(), modules.content(file), number, home) {
             Ok(definitions) => all.push(definitions)?,
             Err(fault) => {
                 let name = modules.file_name(file).unwrap_or("");
@@ -88,12 +103,13 @@ fn no_root<T>(rt: &HostRuntime, root: &str) -> Result<T, Ended> {
     Err(Ended::Status(status))
 }
 
-/// The crate with this root. Its sources have the numbers behind this one.
+/// The crate with this root, at home there. Its sources have the numbers behind this one.
 pub(crate) fn crate_from(
     rt: &HostRuntime,
     disk: &Disk<'_>,
     root: &str,
     last: u32,
+    home: Option<&Home>,
 ) -> Result<Walked, Ended> {
     let Some(modules) = walk_crate(rt.alloc(), disk, root, MOST_FILES)? else {
         return no_root(rt, root);
@@ -101,7 +117,7 @@ pub(crate) fn crate_from(
     let picks = textual_picks(rt.alloc(), &modules)?;
     let offers = offers_of(rt.alloc(), &modules)?;
     Ok(Walked {
-        definitions: all_definitions(rt, &modules, last)?,
+        definitions: all_definitions(rt, &modules, last, home)?,
         seen: FilePicks::new(rt.alloc(), picks)?,
         imports: Imports::new(rt.alloc(), &modules, offers)?,
         modules,
