@@ -144,8 +144,8 @@ check_words() {
     while [ $i -lt ${#words[@]} ]; do
         case ${words[i]} in
             --) check_rest $((i + 1)); return ;;
-            --grammar=* | --edition=* | --scope=* | --depth=* | --most-calls=* | --most-tokens=* | --std=* | --with=* | --cfg=* | --crate=*) check_value "${words[i]%%=*}" "${words[i]#*=}" ;;
-            --grammar | --edition | --scope | --depth | --most-calls | --most-tokens | --with | --cfg | --crate)
+            --grammar=* | --edition=* | --scope=* | --depth=* | --most-calls=* | --most-tokens=* | --std=* | --with=* | --cfg=* | --crate=* | --extern=*) check_value "${words[i]%%=*}" "${words[i]#*=}" ;;
+            --grammar | --edition | --scope | --depth | --most-calls | --most-tokens | --with | --cfg | --crate | --extern)
                 [ $((i + 1)) -lt ${#words[@]} ] || misused "${words[i]} has no value"
                 check_value "${words[i]}" "${words[i + 1]}"
                 i=$((i + 1))
@@ -196,6 +196,7 @@ check_value() {
         --with=*) check_other "$2" && return ;;
         --cfg=*) return ;;
         --crate=*) check_root "$2" && return ;;
+        --extern=?*@?*=?*) check_other "$2" && return ;;
         --grammar=rust | --grammar=small | --edition=2015 | --edition=2018 | --edition=2021 | --edition=2024) return ;;
         --scope=rust | --scope=top) return ;;
         --depth=*) [[ $2 =~ ^\+?0*([0-9]{1,3})$ ]] && [ "${BASH_REMATCH[1]}" -le 255 ] && return ;;
