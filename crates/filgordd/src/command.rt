@@ -3,8 +3,11 @@ ghost use Rattle.std.specs.Prelude.{◌≡◌, IfOk, codes, false};
 ghost use Rattle.clap.specs.Words.{app_of, rule_of, shape_of};
 ghost use Rattle.clap.specs.declared.builder.command.Command.TheViews.{out-Command as fields_of};
 ghost use Rattle.clap.specs.declared.builder.value_parser.ValueParser.{ValueParser};
-ghost use Rattle.filgordd.specs.Commands.{ChoosesLanguage, IsExpandSubcommand, IsMacrosSubcommand, IsProgram, IsSubcommand, IsTextSubcommand};
-ghost use Rattle.filgordd.specs.Commands.{bare_program, cfg_rule, crate_rule, extern_rule, file_rule, layout_rule, library_rule, option_rule, with_rule};
+ghost use Rattle.filgordd.specs.Commands.{ChoosesLanguage, IsExpandSubcommand, IsMacrosSubcommand};
+ghost use Rattle.filgordd.specs.Commands.{IsProgram, IsSubcommand, IsTextSubcommand};
+ghost use Rattle.filgordd.specs.Commands.{bare_program, cfg_rule, crate_rule, extern_rule};
+ghost use Rattle.filgordd.specs.Commands.{file_rule, layout_rule, library_rule, option_rule};
+ghost use Rattle.filgordd.specs.Commands.{with_rule};
 
 use clap::{Arg, ArgAction, Command, value_parser};
 use std::alloc::{AllocError, Global};
@@ -152,7 +155,8 @@ fn root<'a>(alloc: Global) -> Arg<'a>
         .long("crate")
         .value_name("ROOT")
         .help(
-            "The root file of a crate, which is walked through; without a FILE all its files are taken",
+            "The root file of a crate, which is walked through. Without a FILE all its files are \
+            taken",
         )
 }
 
@@ -174,7 +178,10 @@ fn file<'a>(alloc: Global) -> Arg<'a>
     Arg::new(alloc, "file")
         .value_name("FILE")
         .action(ArgAction::Append)
-        .help("The text; without it, or for -, standard input. With --crate, files of the crate")
+        .help(
+            "The text; without it, or for -, standard input. With --crate any number of files of the \
+            crate",
+        )
 }
 
 // A command with the options that choose the language: grammar, edition, scope.

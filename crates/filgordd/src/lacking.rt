@@ -47,7 +47,7 @@ fn lack_line(
     push_shown(&mut line, below(folder, name))?;
     if let Some(item) = module_at(modules, place) {
         let text = text_of(modules, place.file);
-        let spot = spots.spot(place.file, text, item.start as usize);
+        let spot = spots.spot(place.file, text, item.start as usize)?;
         let where_it_is = format!(in alloc; ": line {}, byte column {}", spot.line, spot.column)?;
         line.push_str(where_it_is.as_str())?;
     }
@@ -66,7 +66,7 @@ pub(crate) fn below<'a>(folder: &str, name: &'a str) -> &'a str {
 
 /// Warns of each module that was passed over, in order.
 pub(crate) fn tell_lacks(rt: &HostRuntime, modules: &Modules, folder: &str) -> io::Result<()> {
-    let mut spots = Spots::new(rt.alloc(), modules.file_count())?;
+    let mut spots = Spots::new(rt.alloc());
     for step in modules.steps() {
         if let Step::Lack(place, why) = step {
             let line = lack_line(rt.alloc(), modules, folder, &mut spots, *place, *why)?;

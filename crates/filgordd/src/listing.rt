@@ -4,7 +4,7 @@ ghost use Rattle.std.specs.Prelude.{◌<◌, length};
 use crate::externs::Extern;
 use crate::imports::{Import, name_at};
 use crate::lacking::{below, text_of};
-use crate::load::Loaded;
+use crate::load::{Loaded, Sources};
 use crate::shown::push_shown;
 use crate::spots::{Spot, Spots};
 use crate::whole::Whole;
@@ -50,28 +50,22 @@ fn start_at(modules: &Modules, place: Place) -> usize {
 // No spot of the files of other crates.
 fn spots_of(alloc: Global, externs: &[Extern]) -> Result<Vec<Spots>, AllocError> {
     let mut all = Vec::new(alloc);
-    for one in externs {
-        all.push(Spots::new(alloc, one.walked.modules.file_count())?)?;
+    for _ in externs {
+        all.push(Spots::new(alloc))?;
     }
     Ok(all)
 }
 
 impl<'a> Listing<'a> {
-    // No line, for these sources and files.
-    fn new(
-        alloc: Global,
-        folder: &'a str,
-        sources: usize,
-        files: usize,
-        externs: &[Extern],
-    ) -> Result<Listing<'a>, AllocError> {
+    // No line, for these files.
+    fn new(alloc: Global, folder: &'a str, whole: &Whole) -> Result<Listing<'a>, AllocError> {
         Ok(Listing {
             alloc,
             folder,
             lines: String::new(alloc),
-            sources: Spots::new(alloc, sources)?,
-            files: Spots::new(alloc, files)?,
-            externs: spots_of(alloc, externs)?,
+            sources: Spots::new(alloc),
+            files: Spots::new(alloc),
+            externs: spots_of(alloc, whole.externs.as_slice())?,
         })
     }
 
@@ -96,7 +90,7 @@ impl<'a> Listing<'a> {
         for i in 0..source.len() {
             if is_seen(source, i, is_library) {
                 let start = source.name_range(i).start as usize;
-                let spot = self.sources.spot(index, loaded.text.as_str(), start);
+                let spot = self.sources.spot(index, loaded.text.as_str(), start)?;
                 self.push(source.name(i), loaded.name.as_str(), spot, from)?;
             }
         }
@@ -129,7 +123,7 @@ impl<'a> Listing<'a> {
         from: &str,
     ) -> Result<(), AllocError> {
         let text = text_of(modules, place.file);
-        let spot = self.files.spot(place.file, text, start_at(modules, place));
+        let spot = self.files.spot(place.file, text, start_at(modules, place))?;
         let file = below(self.folder, modules.file_name(place.file).unwrap_or(""));
         self.push(name, file, spot, from)
     }
@@ -141,7 +135,7 @@ impl<'a> Listing<'a> {
         let Some(spots) = self.externs.get_mut(index) else {
             return Ok(());
         };
-        let spot = spots.spot(place.file, text, start_at(modules, place));
+        let spot = spots.spot(place.file, text, start_at(modules, place))?;
         let file = below(self.folder, modules.file_name(place.file).unwrap_or(""));
         let name = name_at(modules, place).unwrap_or("");
         self.push(name, file, spot, "extern")
@@ -175,6 +169,14 @@ impl<'a> Listing<'a> {
             Some(event) => self.push_event(whole.externs.as_slice(), event),
             None => Ok(()),
         }
+    }
+
+    // Adds the definitions of the library and of other files.
+    fn push_given(&mut self, sources: &Sources) -> Result<(), AllocError> {
+        let loaded = sources.files.as_slice();
+        let library = sources.library.as_slice();
+        self.push_sources(0, library, loaded, true)?;
+        self.push_sources(library.len(), sources.with.as_slice(), loaded, false)
     }
 
     // Adds what a file sees by its place.
@@ -241,38 +243,21 @@ impl<'a> Listing<'a> {
 }
 
 /// The lines for the definitions that are in scope at the end of a file, the nearest last: those
-/// of the library, of other files, of the file's place in the crate, of its imports, and its own.
+/// of the library, of other files, of the file's place in the crate, of other crates, of its
+/// imports, and its own.
 pub(crate) fn listed(
     alloc: Global,
     whole: &Whole,
     file: usize,
     folder: &str,
 ) -> Result<String, AllocError> {
-    let Whole {
-        sources,
-        walked,
-        ..
-    } = whole;
-    let modules = &walked.modules;
-    let loaded = sources.files.as_slice();
-    let mut listing = Listing::new(
-        alloc,
-        folder,
-        loaded.len(),
-        modules.file_count(),
-        whole.externs.as_slice(),
-    )?;
-    listing.push_sources(0, sources.library.as_slice(), loaded, true)?;
-    listing.push_sources(
-        sources.library.len(),
-        sources.with.as_slice(),
-        loaded,
-        false,
-    )?;
+    let walked = &whole.walked;
+    let mut listing = Listing::new(alloc, folder, whole)?;
+    listing.push_given(&whole.sources)?;
     listing.push_places(whole, walked.seen.places(file))?;
     listing.push_crates(whole, file)?;
     listing.push_imports(whole, walked.imports.of_file(alloc, file)?.as_slice())?;
-    listing.push_own(modules, file)?;
+    listing.push_own(&walked.modules, file)?;
     let Listing { lines, .. } = listing;
     Ok(lines)
 }

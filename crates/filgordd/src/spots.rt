@@ -1,9 +1,10 @@
 //! Lines and columns of offsets in files, counted on from one offset to the next.
 
 use std::alloc::{AllocError, Global};
+use std::collections::BTreeMap;
 
 /// An offset in a text, and its line and its byte column, from 1.
-#[derive(Clone, Copy)]
+#[derive(Clone, Copy, Drop)]
 pub(crate) struct Spot {
     at: usize,
     pub(crate) line: usize,
@@ -19,7 +20,7 @@ const FIRST: Spot = Spot {
 /// The last spot of each file that was asked for one.
 #[derive(Drop)]
 pub(crate) struct Spots {
-    last: Vec<Spot>,
+    last: BTreeMap<usize, Spot>,
 }
 
 // The spot of an offset, counted on from one that is not behind it.
@@ -40,25 +41,21 @@ fn counted(text: &[u8], from: Spot, at: usize) -> Spot {
 }
 
 impl Spots {
-    /// For this many files.
-    pub(crate) fn new(alloc: Global, files: usize) -> Result<Spots, AllocError> {
-        let mut last = Vec::new(alloc);
-        for _ in 0..files {
-            last.push(FIRST)?;
+    /// No file was asked for one.
+    pub(crate) fn new(alloc: Global) -> Spots {
+        Spots {
+            last: BTreeMap::new(alloc),
         }
-        Ok(Spots { last })
     }
 
     /// The spot of an offset in the text of a file. Spots in order take the time of one pass.
-    pub(crate) fn spot(&mut self, file: usize, text: &str, at: usize) -> Spot {
-        let from = match self.last.get(file) {
+    pub(crate) fn spot(&mut self, file: usize, text: &str, at: usize) -> Result<Spot, AllocError> {
+        let from = match self.last.get(&file) {
             Some(last) if last.at <= at => *last,
             _ => FIRST,
         };
         let spot = counted(text.as_bytes(), from, at);
-        if let Some(last) = self.last.get_mut(file) {
-            *last = spot;
-        }
-        spot
+        self.last.insert(file, spot)?;
+        Ok(spot)
     }
 }

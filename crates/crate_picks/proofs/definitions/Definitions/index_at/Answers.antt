@@ -12,7 +12,7 @@ pub returns-clause-within : goal.returns-clause-within
 returns-clause-within c =
     let is : c.get.result ≡ first_of (starts c.self.inside.source.items) c.args.start = c.get.ensures (starts c.self.inside.source.items) c.self.invariant in
     let count : length (starts c.self.inside.source.items) ≡ length c.args.self.now.items =
-        length-map c.self.inside.source.items start_of ∙ ap (λ (s : Source). length s.items) c.self.view_is in
+    length-map c.self.inside.source.items start_of ∙ ap (λ (s : Source). length s.items) c.self.view_is in
     subst (λ (n : ℕ). IfSome c.get.result (λ k. k < n)) count
     (subst (λ (o : Option ℕ). IfSome o (λ k. k < length (starts c.self.inside.source.items))) (sym is)
     (first_is_within (starts c.self.inside.source.items) c.args.start))
