@@ -1,5 +1,5 @@
 -- The places that files see. (Of this project.)
-use Rattle.std.specs.Prelude.{ℕ, List, [], Option, map, option_and_then, option_map, unwrap_or}
+use Rattle.std.specs.Prelude.{ℕ, List, [], map, option_and_then, option_map, unwrap_or}
 use Rattle.std.specs.List.{slice_get}
 use Rattle.crate_picks.specs.First.{first_of}
 use Rattle.crate_walk.specs.declared.scope.Picks.{Picks}

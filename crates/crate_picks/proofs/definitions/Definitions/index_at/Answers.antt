@@ -1,5 +1,5 @@
 -- Where a number stands first is an index of the list, which is as long as the definitions are many.
-use Rattle.std.proofs.Common.{◌≡◌, ℕ, ◌<◌, Option, length, map, sym, ap, ◌∙◌, subst}
+use Rattle.std.proofs.Common.{◌≡◌, ℕ, ◌<◌, Option, length, sym, ap, ◌∙◌, subst}
 use Rattle.std.specs.Prelude.{IfSome}
 use Rattle.std.proofs.lemmas.List.{length-map}
 use Rattle.crate_picks.proofs.FirstLemmas.{first_is_within}
