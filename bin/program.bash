@@ -134,17 +134,18 @@ ask_for_help() {
 # of the file among `words`, if they name one.
 check_words() {
     local i=1
-    file_at=
+    file_at= root=
+    find_root
     case ${words[0]-} in
-        expand | explain | replay | view) ;;
+        expand | explain | macros | replay | view) ;;
         '') misused 'there is no command' ;;
         *) misused "there is no command $(shown "${words[0]}")" ;;
     esac
     while [ $i -lt ${#words[@]} ]; do
         case ${words[i]} in
             --) check_rest $((i + 1)); return ;;
-            --grammar=* | --edition=* | --scope=* | --depth=* | --most-calls=* | --most-tokens=* | --std=* | --with=* | --cfg=*) check_value "${words[i]%%=*}" "${words[i]#*=}" ;;
-            --grammar | --edition | --scope | --depth | --most-calls | --most-tokens | --with | --cfg)
+            --grammar=* | --edition=* | --scope=* | --depth=* | --most-calls=* | --most-tokens=* | --std=* | --with=* | --cfg=* | --crate=* | --extern=*) check_value "${words[i]%%=*}" "${words[i]#*=}" ;;
+            --grammar | --edition | --scope | --depth | --most-calls | --most-tokens | --with | --cfg | --crate | --extern)
                 [ $((i + 1)) -lt ${#words[@]} ] || misused "${words[i]} has no value"
                 check_value "${words[i]}" "${words[i + 1]}"
                 i=$((i + 1))
@@ -165,8 +166,24 @@ check_rest() {
     done
 }
 
+# Sets `root` where the words name the root of a crate, whose files may be more than one.
+find_root() {
+    local word
+    for word in "${words[@]}"; do
+        case $word in
+            --) return ;;
+            --crate | --crate=*) root=yes ;;
+        esac
+    done
+    [ "${words[0]-}" != macros ] || [ -n "$root" ] || misused 'macros takes --crate'
+}
+
 # Takes the word at this index as the file.
 take_file() {
+    if [ -n "$root" ]; then
+        check_file "${words[$1]}"
+        return
+    fi
     [ -z "$file_at" ] || misused 'more than one file'
     file_at=$1
     [ "${words[$1]}" = - ] || check_file "${words[$1]}"
@@ -178,6 +195,8 @@ check_value() {
         --std=*) check_library "$2" && return ;;
         --with=*) check_other "$2" && return ;;
         --cfg=*) return ;;
+        --crate=*) check_root "$2" && return ;;
+        --extern=?*@?*=?*) check_other "$2" && return ;;
         --grammar=rust | --grammar=small | --edition=2015 | --edition=2018 | --edition=2021 | --edition=2024) return ;;
         --scope=rust | --scope=top) return ;;
         --depth=*) [[ $2 =~ ^\+?0*([0-9]{1,3})$ ]] && [ "${BASH_REMATCH[1]}" -le 255 ] && return ;;
@@ -190,6 +209,13 @@ check_value() {
 check_library() {
     [ -d "$1" ] || fail "there is no folder $(shown "$1")"
     [ -z "$quick" ] || fail '--std takes the built program: leave --quick out'
+}
+
+# The root of a crate, whose files an unproved run cannot be lent.
+check_root() {
+    case ${words[0]} in expand | macros) ;; *) misused "${words[0]} has no option --crate" ;; esac
+    check_file "$1"
+    [ -z "$quick" ] || fail '--crate takes the built program: leave --quick out'
 }
 
 # The file of definitions of `FILE` or `ROOT@EDITION=FILE`.

@@ -23,8 +23,11 @@ fn read(alloc: Global, text: &str) -> Result<Read, TtFault>
     bridge::read(alloc, held.text(), held.tokens())
 }
 
-/// What a file with this text has, under these options: the items of the text. Out of memory is the
-/// only error.
+/// What a file with this text has, under these options: the items of the text.
+///
+/// # Errors
+///
+/// Out of memory, where a request for memory is refused.
 pub fn content_of(alloc: Global, options: &CfgOptions, text: String) -> Result<Content, AllocError>
     ensures { IfOk result (IsContentOf (options_of options.now) (string_bytes text)) }
 {
@@ -43,8 +46,11 @@ pub fn content_of(alloc: Global, options: &CfgOptions, text: String) -> Result<C
     }
 }
 
-/// What a file of these bytes has, under these options: the items of its text. Out of memory is the
-/// only error.
+/// What a file of these bytes has, under these options: the items of its text.
+///
+/// # Errors
+///
+/// Out of memory, where a request for memory is refused.
 pub fn content_of_bytes(
     alloc: Global,
     options: &CfgOptions,

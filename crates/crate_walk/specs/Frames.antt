@@ -165,6 +165,10 @@ module _ (finds : List ℕ → Option (List ℕ) → Type 0) where
       × (n ≡ length (events_of c)) × (is_open h k ≡ Bool.false)
   IsEntry files h s (entry.Lack why) = IsLacking finds files h s why
 
+  -- the same for a frame, of which the table may have got more files
+  abbrev pub IsEntryAt : Progress → Progress → Frame → Finding → Entry → Type 0
+  IsEntryAt old new f s e = IsEntry (files_in new.table) (here_of f old.frames.items) s e
+
   -- an event, where the files of modules are looked for in this folder, is what comes next
   abbrev pub IsNextOf : Folder → Event → Next → Type 0
   IsNextOf folder e next.End = ⊥

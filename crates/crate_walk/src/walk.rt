@@ -1,10 +1,10 @@
 //! Walks through the modules of a crate.
 ghost use Rattle.std.specs.Prelude.{◌≡◌, ◌+◌, ◌-◌, ◌<◌, ◌++◌, ◌∷◌, [], IfOk, OnOk, length};
 ghost use Rattle.std.specs.Prelude.{string_bytes};
-ghost use Rattle.crate_walk.specs.Frames.{Advances, AreRead, IsContentEntry, IsEntry, IsAllowed};
+ghost use Rattle.crate_walk.specs.Frames.{Advances, AreRead, IsContentEntry, IsEntryAt, IsAllowed};
 ghost use Rattle.crate_walk.specs.Frames.{IsNext, IsTurn, GoesOn, IsCounted, Starts, Turns};
 ghost use Rattle.crate_walk.specs.Modules.{AreModules};
-ghost use Rattle.crate_walk.specs.Frames.{at_next, behind_inline, behind_next, file_frame, here_of};
+ghost use Rattle.crate_walk.specs.Frames.{at_next, behind_inline, behind_next, file_frame};
 ghost use Rattle.crate_walk.specs.Frames.{inline_frame};
 ghost use Rattle.crate_walk.specs.Seeking.{found, seen};
 ghost use Rattle.crate_walk.specs.Tables.{AddsOrFinds, AreMore, IsTable};
@@ -81,8 +81,8 @@ fn found_entry<F: Files>(
     ensures more { OnOk result (AreMore (files_in progress.old.table)
         (files_in progress.new.table)) }
     ensures same { progress.new ≡ record progress.old { table = progress.new.table } }
-    ensures entry { IfOk result (IsEntry (F.finds files.now) (files_in progress.new.table)
-        (here_of frame.now progress.old.frames.items) (found (string_bytes name) folder)) }
+    ensures entry { IfOk result (IsEntryAt (F.finds files.now) progress.old progress.new frame.now
+        (found (string_bytes name) folder)) }
 {
     let file = file_of(alloc, files, &mut progress.table, name)?;
     if progress.is_open(frame, file) {
@@ -107,8 +107,8 @@ fn entry_of<F: Files>(
     ensures more { OnOk result (AreMore (files_in progress.old.table)
         (files_in progress.new.table)) }
     ensures same { progress.new ≡ record progress.old { table = progress.new.table } }
-    ensures entry { IfOk result (IsEntry (F.finds files.now) (files_in progress.new.table)
-        (here_of frame.now progress.old.frames.items) (seen sought)) }
+    ensures entry { IfOk result (IsEntryAt (F.finds files.now) progress.old progress.new frame.now
+        (seen sought)) }
 {
     match sought {
         Sought::Missing => Ok(Entry::Lack(Lack::Missing)),
@@ -319,8 +319,12 @@ fn start<F: Files>(
 /// The modules of the crate whose root has this path, in order, and the files that were read. At
 /// most so many files are entered besides the root. `None` if there is no file of this path.
 ///
-/// Each file has one number, by its name. What cannot be followed is a step that says why. Out of
-/// memory is the only error.
+/// Each file has one number, by its name. What cannot be followed is a step that says why.
+///
+/// # Errors
+///
+/// Out of memory, where a request for memory is refused: one of the walk, or one of a call of
+/// `files`. Then nothing is answered of the files that were read.
 pub fn walk_crate<F: Files>(
     alloc: Global,
     files: &F,

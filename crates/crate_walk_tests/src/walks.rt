@@ -2,8 +2,8 @@
 use crate::listed::{Entry, Listed, file, link};
 use crate::told::walk_told;
 use cfg_options::CfgOptions;
-use crate_walk::walk_crate;
-use std::alloc::Global;
+use crate_walk::{textual_picks, walk_crate};
+use std::alloc::{AllocError, Global};
 use std::test::Fail;
 
 // The steps of the walk through these files from a root.
@@ -142,6 +142,42 @@ fn too_many(rt: HostRuntime) -> Result<(), Fail> {
     assert_eq!(rt;
         told.as_str(),
         "mod a in a.rs {\n}\nmod b too many\nmod c of 0 {\n}\n}\n",
+    );
+    Ok(())
+}
+
+// The steps of a walk through two files, and how many definitions of others each sees.
+fn two_files(alloc: Global) -> Result<String, AllocError> {
+    let options = CfgOptions::new(alloc);
+    let entries = [
+        file("lib.rs", "macro_rules! m { () => {} } mod a; use b::c;"),
+        file("a.rs", "mod d { mod e; }"),
+    ];
+    let files = Listed {
+        entries: &entries,
+        options: &options,
+    };
+    let Some(modules) = walk_crate(alloc, &files, "lib.rs", 9)? else {
+        return String::from_str(alloc, "no root");
+    };
+    let mut told = walk_told(alloc, &modules)?;
+    for picks in &textual_picks(alloc, &modules)? {
+        let count = picks.places.len();
+        told.push_str(format!(in alloc; "{count} ")?.as_str())?;
+    }
+    Ok(told)
+}
+
+// A walk that is refused memory gives the same when it is made again.
+#[test]
+fn refused_walks(rt: HostRuntime) -> Result<(), Fail> {
+    let told = match two_files(rt.alloc()) {
+        Ok(told) => told,
+        Err(_) => two_files(rt.alloc())?,
+    };
+    assert_eq!(rt;
+        told.as_str(),
+        "macro_rules m\nmod a in a.rs {\nmod d of 1 {\nmod e missing\n}\n}\nuse b::c as c\n}\n1 0 ",
     );
     Ok(())
 }

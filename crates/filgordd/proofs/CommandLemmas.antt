@@ -8,7 +8,7 @@ use Rattle.clap.specs.Walk.{Row, Text, all_of, first_of, one_of, rows_of}
 use Rattle.clap.specs.declared.builder.value_parser.ValueParser.{ValueParser}
 use Rattle.clap.specs.declared.parser.matches.Found.{Found}
 use Rattle.filgordd.specs.Choices.{action_name}
-use Rattle.filgordd.specs.Commands.{AsksBy, AsksFor, IsFile, IsFlag, IsProgram, file_rule, layout_rule, on_text, option_rule, program_shape, with_more}
+use Rattle.filgordd.specs.Commands.{AsksBy, AsksFor, IsFile, IsFlag, IsProgram, file_rule, in_crate, layout_rule, on_text, option_rule, program_shape, with_more}
 use Rattle.filgordd.specs.declared.job.Action.{Action}
 use Rattle.filgordd.specs.declared.job.Job.{Job}
 
@@ -78,15 +78,21 @@ subcommand_of_name name grammar edition scope depth calls tokens = record (new_s
 pub is_simple_program : (app : App) → IsProgram app → is_simple app ≡ true
 is_simple_program app p =
     let base : Text → ValueParser → ValueParser → ValueParser → ValueParser → ValueParser → ValueParser → Shape = λ name g e s d m n. on_text (subcommand_of_name name g e s d m n) in
-    let of_four : Shape → Shape → Shape → Shape → App = λ a b c d. record { top = program_shape; subs = a ∷ b ∷ c ∷ d ∷ [] } in
-    let expand : Shape = with_more layout_rule
+    let of_five : Shape → Shape → Shape → Shape → Shape → App = λ a b c d e. record { top = program_shape; subs = a ∷ b ∷ c ∷ d ∷ e ∷ [] } in
+    let with_expand : Shape → Shape = λ s. in_crate (with_more layout_rule s) in
+    let expand : Shape = with_expand
     (base (codes "expand") p.is_expand.is_base.is_base.grammar p.is_expand.is_base.is_base.edition p.is_expand.is_base.is_base.scope
     p.is_expand.is_base.is_base.depth p.is_expand.is_base.is_base.calls p.is_expand.is_base.is_base.tokens) in
     let explain : Shape = base (codes "explain") p.is_explain.is_base.grammar p.is_explain.is_base.edition p.is_explain.is_base.scope p.is_explain.is_base.depth p.is_explain.is_base.calls p.is_explain.is_base.tokens in
+    let macros : Shape = in_crate
+    (base (codes "macros") p.is_macros.is_base.is_base.grammar p.is_macros.is_base.is_base.edition p.is_macros.is_base.is_base.scope
+    p.is_macros.is_base.is_base.depth p.is_macros.is_base.is_base.calls p.is_macros.is_base.is_base.tokens) in
     let replay : Shape = base (codes "replay") p.is_replay.is_base.grammar p.is_replay.is_base.edition p.is_replay.is_base.scope p.is_replay.is_base.depth p.is_replay.is_base.calls p.is_replay.is_base.tokens in
     ap is_simple (p.app_is
-    ∙ ap (λ (s : Shape). of_four s p.explain p.replay p.view) (p.is_expand.shape_is
-    ∙ ap (with_more layout_rule) (p.is_expand.is_base.shape_is ∙ ap on_text p.is_expand.is_base.is_base.shape_is))
-    ∙ ap (λ (s : Shape). of_four expand s p.replay p.view) (p.is_explain.shape_is ∙ ap on_text p.is_explain.is_base.shape_is)
-    ∙ ap (λ (s : Shape). of_four expand explain s p.view) (p.is_replay.shape_is ∙ ap on_text p.is_replay.is_base.shape_is)
-    ∙ ap (λ (s : Shape). of_four expand explain replay s) (p.is_view.shape_is ∙ ap on_text p.is_view.is_base.shape_is))
+    ∙ ap (λ (s : Shape). of_five s p.explain p.macros p.replay p.view) (p.is_expand.shape_is
+    ∙ ap with_expand (p.is_expand.is_base.shape_is ∙ ap on_text p.is_expand.is_base.is_base.shape_is))
+    ∙ ap (λ (s : Shape). of_five expand s p.macros p.replay p.view) (p.is_explain.shape_is ∙ ap on_text p.is_explain.is_base.shape_is)
+    ∙ ap (λ (s : Shape). of_five expand explain s p.replay p.view) (p.is_macros.shape_is
+    ∙ ap in_crate (p.is_macros.is_base.shape_is ∙ ap on_text p.is_macros.is_base.is_base.shape_is))
+    ∙ ap (λ (s : Shape). of_five expand explain macros s p.view) (p.is_replay.shape_is ∙ ap on_text p.is_replay.is_base.shape_is)
+    ∙ ap (λ (s : Shape). of_five expand explain macros replay s) (p.is_view.shape_is ∙ ap on_text p.is_view.is_base.shape_is))

@@ -5,7 +5,7 @@ use Rattle.clap.proofs.OnLiterals.{clap_on_literals}
 use Rattle.clap.specs.Simple.{App, Shape, new_shape, subcommand_of}
 use Rattle.clap.specs.Walk.{Text, all_of, first_of, one_of}
 use Rattle.clap.specs.declared.builder.value_parser.ValueParser.{ValueParser}
-use Rattle.filgordd.specs.Commands.{file_rule, layout_rule, on_text, option_rule, program_shape, with_more}
+use Rattle.filgordd.specs.Commands.{file_rule, in_crate, layout_rule, on_text, option_rule, program_shape, with_more}
 
 module _ (grammar edition scope depth calls tokens : ValueParser) where
   abbrev named : Text → Shape
@@ -21,7 +21,8 @@ module _ (grammar edition scope depth calls tokens : ValueParser) where
   abbrev program : App
   program = record {
     top = program_shape;
-    subs = with_more layout_rule (on_text (named (codes "expand"))) ∷ on_text (named (codes "explain")) ∷ on_text (named (codes "replay"))
+    subs = in_crate (with_more layout_rule (on_text (named (codes "expand")))) ∷ on_text (named (codes "explain"))
+        ∷ in_crate (on_text (named (codes "macros"))) ∷ on_text (named (codes "replay"))
         ∷ on_text (named (codes "view")) ∷ [];
   }
 
@@ -84,3 +85,19 @@ module _ (grammar edition scope depth calls tokens : ValueParser) where
   as_printed : layout (codes "filgordd" ∷ codes "expand" ∷ codes "t" ∷ []) ≡ Some (Some (codes "false"), Some (codes "t"))
   unfolding clap_on_literals
   as_printed = refl
+
+  -- the root of a crate, and the files
+  abbrev crate_words : List Text → Option (Option Text × (Option Text × Option (List Text)))
+  crate_words words = option_map {U = Option Text × (Option Text × Option (List Text))}
+      (λ p. (Some p.0, (first_of (codes "crate") p.1, all_of (codes "file") p.1))) (subcommand_of program words)
+
+  -- `filgordd macros --crate r a b`
+  two_files : crate_words (codes "filgordd" ∷ codes "macros" ∷ codes "--crate" ∷ codes "r" ∷ codes "a" ∷ codes "b" ∷ [])
+      ≡ Some (Some (codes "macros"), (Some (codes "r"), Some (codes "a" ∷ codes "b" ∷ [])))
+  unfolding clap_on_literals
+  two_files = refl
+
+  -- `filgordd expand --crate=r`
+  all_files : crate_words (codes "filgordd" ∷ codes "expand" ∷ codes "--crate=r" ∷ []) ≡ Some (Some (codes "expand"), (Some (codes "r"), None))
+  unfolding clap_on_literals
+  all_files = refl

@@ -47,9 +47,21 @@ layout_rule = record (new_rule (codes "layout")) {
   action = Some SetTrue;
 }
 
--- the file, which has no name on the command line
+-- the root of a crate: an option with no value where it is not used
+abbrev pub crate_rule : Rule
+crate_rule = record (new_rule (codes "crate")) { long = Some (codes "crate"); value_names = 1 }
+
+-- other crates: an option that may be used any number of times
+abbrev pub extern_rule : Rule
+extern_rule = record (new_rule (codes "extern")) {
+  long = Some (codes "extern");
+  value_names = 1;
+  action = Some Append;
+}
+
+-- the files, which have no name on the command line
 abbrev pub file_rule : Rule
-file_rule = record (new_rule (codes "file")) { value_names = 1 }
+file_rule = record (new_rule (codes "file")) { value_names = 1; action = Some Append }
 
 -- a command with the options that choose the language, whatever tests their values
 pub record ChoosesLanguage (name : Text) (shape : Shape) : Type 0 where
@@ -92,13 +104,23 @@ pub record IsTextSubcommand (name : Text) (shape : Shape) : Type 0 where
   pub is_base : IsSubcommand name base
   pub shape_is : shape ≡ on_text base
 
--- `expand`, which may lay out what it prints
+-- a subcommand that takes files of a crate, and other crates
+abbrev pub in_crate : Shape → Shape
+in_crate s = with_more crate_rule (with_more extern_rule s)
+
+-- `expand`, which may lay out what it prints, and takes files of a crate
 pub record IsExpandSubcommand (shape : Shape) : Type 0 where
   pub base : Shape
   pub is_base : IsTextSubcommand (codes "expand") base
-  pub shape_is : shape ≡ with_more layout_rule base
+  pub shape_is : shape ≡ in_crate (with_more layout_rule base)
 
--- the program: one of its four subcommands has to be named
+-- `macros`, which takes files of a crate
+pub record IsMacrosSubcommand (shape : Shape) : Type 0 where
+  pub base : Shape
+  pub is_base : IsTextSubcommand (codes "macros") base
+  pub shape_is : shape ≡ in_crate base
+
+-- the program: one of its five subcommands has to be named
 abbrev pub program_shape : Shape
 program_shape = record (new_shape (codes "filgordd")) {
   is_leaf = false;
@@ -114,13 +136,15 @@ bare_program = record { top = record program_shape { is_leaf = true }; subs = []
 pub record IsProgram (app : App) : Type 0 where
   pub expand : Shape
   pub explain : Shape
+  pub macros : Shape
   pub replay : Shape
   pub view : Shape
   pub is_expand : IsExpandSubcommand expand
   pub is_explain : IsTextSubcommand (codes "explain") explain
+  pub is_macros : IsMacrosSubcommand macros
   pub is_replay : IsTextSubcommand (codes "replay") replay
   pub is_view : IsTextSubcommand (codes "view") view
-  pub app_is : app ≡ record { top = program_shape; subs = expand ∷ explain ∷ replay ∷ view ∷ [] }
+  pub app_is : app ≡ record { top = program_shape; subs = expand ∷ explain ∷ macros ∷ replay ∷ view ∷ [] }
 
 -- a file's name is the word for it, but `-` names none
 pub record IsFile (word file : Option Text) : Type 0 where
@@ -150,7 +174,8 @@ pub record ChosenBy (rows : List Row) (options : Options AnyGrammar) : Type 0 wh
   pub chosen : Chosen grammar edition scope depth calls tokens options
 
 -- what they ask for: a job with these options, laid out or not, and, each as its word names it, a
--- folder of libraries, other files in order, options of `cfg`, and a text
+-- folder of libraries, other files in order, options of `cfg`, a text, all texts in order,
+-- other crates in order, and the root of a crate
 pub record AsksBy (rows : List Row) (job : Job) : Type 0 where
   pub options : ChosenBy rows job.options
   pub has_layout : IsFlag (one_of (codes "layout") rows) job.layout
@@ -158,6 +183,9 @@ pub record AsksBy (rows : List Row) (job : Job) : Type 0 where
   pub has_with : unwrap_or (all_of (codes "with") rows) [] ≡ map (λ s. s.now) job.with.items
   pub has_cfg : unwrap_or (all_of (codes "cfg") rows) [] ≡ map (λ s. s.now) job.cfg.items
   pub has_file : IsFile (first_of (codes "file") rows) (option_map (λ s. s.now) job.file)
+  pub has_files : unwrap_or (all_of (codes "file") rows) [] ≡ map (λ s. s.now) job.files.items
+  pub has_externs : unwrap_or (all_of (codes "extern") rows) [] ≡ map (λ s. s.now) job.externs.items
+  pub has_root : first_of (codes "crate") rows ≡ option_map (λ s. s.now) job.root
 
 -- the subcommand that was named, and its values, ask for this job
 abbrev pub AsksFor : Option (Text × List Row) → Job → Type 0

@@ -3,8 +3,11 @@ ghost use Rattle.std.specs.Prelude.{◌≡◌, IfOk, codes, false};
 ghost use Rattle.clap.specs.Words.{app_of, rule_of, shape_of};
 ghost use Rattle.clap.specs.declared.builder.command.Command.TheViews.{out-Command as fields_of};
 ghost use Rattle.clap.specs.declared.builder.value_parser.ValueParser.{ValueParser};
-ghost use Rattle.filgordd.specs.Commands.{ChoosesLanguage, IsExpandSubcommand, IsProgram, IsSubcommand, IsTextSubcommand};
-ghost use Rattle.filgordd.specs.Commands.{bare_program, cfg_rule, file_rule, layout_rule, library_rule, option_rule, with_rule};
+ghost use Rattle.filgordd.specs.Commands.{ChoosesLanguage, IsExpandSubcommand, IsMacrosSubcommand};
+ghost use Rattle.filgordd.specs.Commands.{IsProgram, IsSubcommand, IsTextSubcommand};
+ghost use Rattle.filgordd.specs.Commands.{bare_program, cfg_rule, crate_rule, extern_rule};
+ghost use Rattle.filgordd.specs.Commands.{file_rule, layout_rule, library_rule, option_rule};
+ghost use Rattle.filgordd.specs.Commands.{with_rule};
 
 use clap::{Arg, ArgAction, Command, value_parser};
 use std::alloc::{AllocError, Global};
@@ -144,13 +147,41 @@ fn layout<'a>(alloc: Global) -> Arg<'a>
         .help("Lays the expansion out as Rust code")
 }
 
+fn root<'a>(alloc: Global) -> Arg<'a>
+    ensures rule { rule_of result ≡ crate_rule }
+    ensures own { result.global ≡ false }
+{
+    Arg::new(alloc, "crate")
+        .long("crate")
+        .value_name("ROOT")
+        .help(
+            "The root file of a crate, which is walked through. Without a FILE all its files are \
+            taken",
+        )
+}
+
+fn other_crate<'a>(alloc: Global) -> Arg<'a>
+    ensures rule { rule_of result ≡ extern_rule }
+    ensures own { result.global ≡ false }
+{
+    Arg::new(alloc, "extern")
+        .long("extern")
+        .value_name("NAME@EDITION=ROOT")
+        .action(ArgAction::Append)
+        .help("The root file of another crate, whose macros the crate may call; may be repeated")
+}
+
 fn file<'a>(alloc: Global) -> Arg<'a>
     ensures rule { rule_of result ≡ file_rule }
     ensures own { result.global ≡ false }
 {
     Arg::new(alloc, "file")
         .value_name("FILE")
-        .help("The text; without it, or for -, standard input")
+        .action(ArgAction::Append)
+        .help(
+            "The text; without it, or for -, standard input. With --crate any number of files of the \
+            crate",
+        )
 }
 
 // A command with the options that choose the language: grammar, edition, scope.
@@ -202,7 +233,21 @@ fn expand_subcommand<'a>(alloc: Global) -> Result<Command<'a>, AllocError>
     ensures own { IfOk result (λ c. (fields_of c).has_globals ≡ false) }
 {
     let about = "Prints the expansion of a text, and reports its faults";
-    text_subcommand(alloc, "expand", about)?.arg(layout(alloc))
+    text_subcommand(alloc, "expand", about)?
+        .arg(layout(alloc))?
+        .arg(other_crate(alloc))?
+        .arg(root(alloc))
+}
+
+// The subcommand that lists definitions.
+fn macros_subcommand<'a>(alloc: Global) -> Result<Command<'a>, AllocError>
+    ensures shape { IfOk result (λ c. IsMacrosSubcommand (shape_of c)) }
+    ensures own { IfOk result (λ c. (fields_of c).has_globals ≡ false) }
+{
+    let about = "Lists the macros that files of a crate see, the nearest last";
+    text_subcommand(alloc, "macros", about)?
+        .arg(other_crate(alloc))?
+        .arg(root(alloc))
 }
 
 // The program's command without its subcommands.
@@ -230,6 +275,7 @@ pub(crate) fn program<'a>(alloc: Global) -> Result<Command<'a>, AllocError>
     bare_program(alloc)?
         .subcommand(expand_subcommand(alloc)?)?
         .subcommand(text_subcommand(alloc, "explain", explain)?)?
+        .subcommand(macros_subcommand(alloc)?)?
         .subcommand(text_subcommand(alloc, "replay", replay)?)?
         .subcommand(text_subcommand(alloc, "view", view)?)
 }

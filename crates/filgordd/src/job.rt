@@ -15,6 +15,8 @@ pub(crate) enum Action {
     Expand,
     /// Its faults are explained.
     Explain,
+    /// The definitions that it sees are listed.
+    Macros,
     /// It is answered as a script of edits and expansions.
     Replay,
     /// It is shown with its expansion, as an HTML page.
@@ -29,6 +31,7 @@ pub(crate) fn action_of(name: &str) -> Option<Action>
     match name {
         "expand" => Some(Action::Expand),
         "explain" => Some(Action::Explain),
+        "macros" => Some(Action::Macros),
         "replay" => Some(Action::Replay),
         "view" => Some(Action::View),
         _ => None,
@@ -52,6 +55,12 @@ pub(crate) struct Job<'a> {
     /// The path of the text's file; without one it is standard input. To explain faults, the line
     /// and column of one may follow.
     pub(crate) file: Option<&'a str>,
+    /// The paths of all files that were named, in order.
+    pub(crate) files: Vec<&'a str>,
+    /// The words for other crates, in order.
+    pub(crate) externs: Vec<&'a str>,
+    /// The root of the crate that they are files of.
+    pub(crate) root: Option<&'a str>,
 }
 
 // The grammar of a name, if it is one's; that of Rust is of this edition.

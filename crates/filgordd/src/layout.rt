@@ -13,14 +13,14 @@ use std::process::ExitCode;
 
 /// What a run printed and reported, and its status.
 #[derive(Drop)]
-struct Run {
-    printed: Vec<u8>,
-    told: Vec<u8>,
-    status: u8,
+pub(crate) struct Run {
+    pub(crate) printed: Vec<u8>,
+    pub(crate) told: Vec<u8>,
+    pub(crate) status: u8,
 }
 
-// A run into memory, as the crate `expander` says of `run_after`, if that is enough.
-fn run_in_memory(
+/// A run into memory, as the crate `expander` says of `run_after`, if that is enough.
+pub(crate) fn run_in_memory(
     alloc: Global,
     options: Options<AnyGrammar>,
     prelude: Prelude,
@@ -47,8 +47,8 @@ fn run_in_memory(
     })
 }
 
-// A printed text laid out. It is UTF-8, so no byte of it is replaced.
-fn laid_out(alloc: Global, printed: &[u8]) -> Result<String, AllocError>
+/// A printed text laid out. It is UTF-8, so no byte of it is replaced.
+pub(crate) fn laid_out(alloc: Global, printed: &[u8]) -> Result<String, AllocError>
     ensures { IsUtf8 printed.now
         → IfOk result (λ laid. words_of (string_bytes laid) ≡ words_of printed.now) }
 {

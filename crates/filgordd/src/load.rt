@@ -5,11 +5,10 @@ use crate::files::{misused, opened, read_whole, refused};
 use crate::job::Job;
 use crate::library::{CRATES, FILES, edition_in};
 use crate::other::{Other, other_of};
-use crate::picks::push_library;
+use crate::picks::push_before;
 use crate::source::blank_front;
 use expander::{Edition, Home, Prelude, ReadFault, Source, SourceRead};
 use expander_run::lines::{FIRST, push_line, read_fault_words, spot_of};
-use replay_script::push_source;
 use std::alloc::{AllocError, AllocFailed, Global};
 use std::process::ExitCode;
 use std::{fs, io};
@@ -21,6 +20,26 @@ pub(crate) struct Others {
     pub(crate) prelude: Prelude,
     /// The names of the files that they come from, in order of the sources' numbers, from 1.
     pub(crate) names: Vec<String>,
+}
+
+/// A file that was read: its name as it was given, and its text.
+#[derive(Drop)]
+pub(crate) struct Loaded {
+    pub(crate) name: String,
+    pub(crate) text: String,
+}
+
+/// The sources whose definitions texts are expanded after, with numbers from 1 in this order.
+#[derive(Drop)]
+pub(crate) struct Sources {
+    /// The files of the library.
+    pub(crate) library: Vec<Source>,
+    /// The crates of the library.
+    pub(crate) homes: Vec<Home>,
+    /// Other files.
+    pub(crate) with: Vec<Source>,
+    /// All these files, in order.
+    pub(crate) files: Vec<Loaded>,
 }
 
 /// Why the program ends before it reads its text.
@@ -55,13 +74,13 @@ fn misuse<T>(rt: &HostRuntime, what: &str, why: &str) -> Result<T, Ended> {
     Err(Ended::Status(misused(rt, what, &why)?))
 }
 
-// The end where a file that was opened is no text whose definitions can be had.
-fn refusal<T>(rt: &HostRuntime, path: &str, why: &str) -> Result<T, Ended> {
+/// The end where a file that was opened is no text whose definitions can be had.
+pub(crate) fn refusal<T>(rt: &HostRuntime, path: &str, why: &str) -> Result<T, Ended> {
     Err(Ended::Status(refused(rt, path, why)?))
 }
 
-// What a file is refused for: many tokens, or else memory.
-fn fault_words(fault: TtFault) -> &'static str {
+/// What a file is refused for: many tokens, or else memory.
+pub(crate) fn fault_words(fault: TtFault) -> &'static str {
     match fault {
         TtFault::Tokens => "too many tokens",
         _ => "out of memory",
@@ -116,20 +135,25 @@ fn text_source(
     }
 }
 
-// The source with this number that a file is.
+// The source with this number that a file is. It is kept under this name.
 fn file_source(
     rt: &HostRuntime,
     number: u32,
     home: Option<Home>,
     path: &str,
+    name: &str,
+    files: &mut Vec<Loaded>,
 ) -> Result<Source, Ended>
     requires { 1 ≤ number }
 {
     let bytes = bytes_of(rt, path)?;
-    match std::str::from_utf8(bytes.as_slice()) {
-        Ok(text) => text_source(rt, number, home, path, text),
-        Err(_) => refusal(rt, path, "input is not UTF-8"),
-    }
+    let Ok(text) = String::from_utf8(bytes) else {
+        return refusal(rt, path, "input is not UTF-8");
+    };
+    let source = text_source(rt, number, home, path, text.as_str())?;
+    let name = String::from_str(rt.alloc(), name)?;
+    files.push(Loaded { name, text })?;
+    Ok(source)
 }
 
 // The edition of a crate of the library: 2024 where its manifest names none.
@@ -169,27 +193,23 @@ fn home_of(alloc: Global, homes: &[Home], file: &str) -> Result<Option<Home>, Al
     Ok(None)
 }
 
-// Adds the definitions of the library in this folder. Its sources have the numbers from 1 on.
-fn load_library(rt: &HostRuntime, others: &mut Others, folder: &str) -> Result<(), Ended> {
-    let homes = crate_homes(rt, folder)?;
-    let mut sources = Vec::new(rt.alloc());
+// Adds the library in this folder. Its sources have the numbers from 1 on.
+fn load_library(rt: &HostRuntime, sources: &mut Sources, folder: &str) -> Result<(), Ended> {
+    sources.homes = crate_homes(rt, folder)?;
     for i in 0..FILES.len() {
         let file = FILES[i];
         let path = format!(in rt.alloc(); "{folder}/{file}")?;
-        let home = home_of(rt.alloc(), homes.as_slice(), file)?;
+        let home = home_of(rt.alloc(), sources.homes.as_slice(), file)?;
         let number = i as u32 + 1;
-        sources.push(file_source(rt, number, home, path.as_str())?)?;
-        others.names.push(String::from_str(rt.alloc(), file)?)?;
+        let files = &mut sources.files;
+        let source = file_source(rt, number, home, path.as_str(), file, files)?;
+        sources.library.push(source)?;
     }
-    let prelude = &mut others.prelude;
-    match push_library(rt.alloc(), prelude, sources.as_slice(), homes.as_slice()) {
-        Ok(()) => Ok(()),
-        Err(fault) => refusal(rt, folder, fault_words(fault)),
-    }
+    Ok(())
 }
 
-// Adds the definitions of the file that a word names, as the source with this number.
-fn load_file(rt: &HostRuntime, others: &mut Others, number: u32, word: &str) -> Result<(), Ended>
+// Adds the file that a word names, as the source with this number.
+fn load_file(rt: &HostRuntime, sources: &mut Sources, number: u32, word: &str) -> Result<(), Ended>
     requires { 1 ≤ number }
 {
     let (home, path) = match other_of(rt.alloc(), word)? {
@@ -197,16 +217,13 @@ fn load_file(rt: &HostRuntime, others: &mut Others, number: u32, word: &str) -> 
         Other::BadRoot(root) => return misuse(rt, word, "this root is no name of a crate"),
         Other::BadEdition(year) => return misuse(rt, word, "there is no such edition"),
     };
-    let source = file_source(rt, number, home, path)?;
-    others.names.push(String::from_str(rt.alloc(), path)?)?;
-    match push_source(rt.alloc(), &mut others.prelude, &source) {
-        Ok(()) => Ok(()),
-        Err(fault) => refusal(rt, path, fault_words(fault)),
-    }
+    let source = file_source(rt, number, home, path, path, &mut sources.files)?;
+    sources.with.push(source)?;
+    Ok(())
 }
 
-// The number of the next source.
-fn after(number: u32) -> Result<u32, AllocError>
+/// The number of the next source.
+pub(crate) fn after(number: u32) -> Result<u32, AllocError>
     ensures { IfOk result (λ n. n ≡ number + 1) }
 {
     match number.checked_add(1) {
@@ -215,21 +232,51 @@ fn after(number: u32) -> Result<u32, AllocError>
     }
 }
 
-/// The definitions that a job's text is expanded after. Sources are numbered in this order: the
-/// library's files, and then the other files in the order of their words.
-pub(crate) fn others_of(rt: &HostRuntime, job: &Job<'_>) -> Result<Others, Ended> {
-    let mut others = Others {
-        prelude: Prelude::new(rt.alloc()),
-        names: Vec::new(rt.alloc()),
+/// The sources whose definitions a job's texts are expanded after: the library's files, and then
+/// the other files in the order of their words.
+pub(crate) fn sources_of(rt: &HostRuntime, job: &Job<'_>) -> Result<Sources, Ended> {
+    let mut sources = Sources {
+        library: Vec::new(rt.alloc()),
+        homes: Vec::new(rt.alloc()),
+        with: Vec::new(rt.alloc()),
+        files: Vec::new(rt.alloc()),
     };
     let mut last = 0;
     if let Some(folder) = job.library {
-        load_library(rt, &mut others, folder)?;
+        load_library(rt, &mut sources, folder)?;
         last = FILES.len() as u32;
     }
     for word in &job.with {
         last = after(last)?;
-        load_file(rt, &mut others, last, word)?;
+        load_file(rt, &mut sources, last, word)?;
     }
-    Ok(others)
+    Ok(sources)
+}
+
+/// The definitions of sources, as a prelude.
+pub(crate) fn prelude_of(alloc: Global, sources: &Sources) -> Result<Prelude, TtFault> {
+    let mut prelude = Prelude::new(alloc);
+    let library = sources.library.as_slice();
+    let homes = sources.homes.as_slice();
+    push_before(alloc, &mut prelude, library, homes, sources.with.as_slice())?;
+    Ok(prelude)
+}
+
+// The names of files, in order.
+fn names_of(alloc: Global, files: &[Loaded]) -> Result<Vec<String>, AllocError> {
+    let mut names = Vec::new(alloc);
+    for file in files {
+        names.push(String::from_str(alloc, file.name.as_str())?)?;
+    }
+    Ok(names)
+}
+
+/// The definitions that a job's text is expanded after.
+pub(crate) fn others_of(rt: &HostRuntime, job: &Job<'_>) -> Result<Others, Ended> {
+    let sources = sources_of(rt, job)?;
+    let names = names_of(rt.alloc(), sources.files.as_slice())?;
+    match prelude_of(rt.alloc(), &sources) {
+        Ok(prelude) => Ok(Others { prelude, names }),
+        Err(fault) => refusal(rt, "definitions of other files", fault_words(fault)),
+    }
 }

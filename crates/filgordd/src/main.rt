@@ -2,23 +2,34 @@
 //! expansion as a page, or answers a script of edits and expansions.
 #![tactic(auto)]
 
+mod chosen;
 mod command;
 mod conditions;
+mod crates;
+mod disk;
 mod explain;
+mod externs;
 mod files;
+mod imports;
 mod job;
+mod lacking;
 mod layout;
 mod library;
+mod listing;
 mod load;
 mod other;
 mod picks;
 mod place;
+mod renamed;
 mod request;
 mod shown;
 mod source;
+mod spots;
 mod view;
+mod walked;
 mod warned;
 mod warnings;
+mod whole;
 mod work;
 
 use crate::files::misused;

@@ -2,8 +2,10 @@
 ghost use Rattle.std.specs.Prelude.{◌≡◌, ◌<◌, ◌++◌, OnOk, flat_map, length};
 ghost use Rattle.expander_sources.specs.Sources.{item_at};
 ghost use Rattle.filgordd.specs.Picking.{exports_of, is_exported, is_of, picks_at_side, picks_behind, picks_of_library};
+ghost use Rattle.replay_script.specs.Picks.{picks_of_source};
 
 use expander::{Home, Prelude, Source};
+use replay_script::push_source;
 use std::alloc::Global;
 use tt_data::TtFault;
 
@@ -96,9 +98,9 @@ fn push_roots(
     Ok(())
 }
 
-/// Adds the definitions of libraries that export one another's: those that they export, and all
-/// behind the root of each.
-pub(crate) fn push_library(
+// Adds the definitions of libraries that export one another's: those that they export, and all
+// behind the root of each.
+fn push_library(
     alloc: Global,
     prelude: &mut Prelude,
     sources: &[Source],
@@ -108,4 +110,29 @@ pub(crate) fn push_library(
 {
     push_exported(alloc, prelude, sources)?;
     push_roots(alloc, prelude, sources, roots)
+}
+
+// Adds the definitions of sources, in order.
+fn push_sources(alloc: Global, prelude: &mut Prelude, sources: &[Source]) -> Result<(), TtFault>
+    ensures { OnOk result (prelude.new ≡ prelude.old ++ flat_map picks_of_source sources.now) }
+{
+    for source in sources {
+        push_source(alloc, prelude, source)?;
+    }
+    Ok(())
+}
+
+/// Adds the definitions of libraries that export one another's, and then those of other sources.
+pub(crate) fn push_before(
+    alloc: Global,
+    prelude: &mut Prelude,
+    library: &[Source],
+    roots: &[Home],
+    others: &[Source],
+) -> Result<(), TtFault>
+    ensures { OnOk result (prelude.new ≡ prelude.old
+        ++ (picks_of_library library.now roots.now ++ flat_map picks_of_source others.now)) }
+{
+    push_library(alloc, prelude, library, roots)?;
+    push_sources(alloc, prelude, others)
 }

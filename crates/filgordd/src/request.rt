@@ -83,6 +83,9 @@ fn job_of<'a>(
         with: words_of(alloc, matches, "with")?,
         cfg: words_of(alloc, matches, "cfg")?,
         file: file_of(matches.get_str("file")),
+        files: words_of(alloc, matches, "file")?,
+        externs: words_of(alloc, matches, "extern")?,
+        root: matches.get_str("crate"),
     }))
 }
 

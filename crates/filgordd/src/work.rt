@@ -2,6 +2,7 @@
 ghost use Rattle.std.specs.Prelude.{◌≡◌};
 
 use crate::conditions::cfg_of;
+use crate::crates::perform_crate;
 use crate::explain::explain;
 use crate::files::{misused, opened, read_whole, stopped};
 use crate::job::{Action, Job};
@@ -111,8 +112,8 @@ fn may_warn(options: &Options<AnyGrammar>, text: &str) -> bool {
     text.len() <= u32::MAX as usize && has_definitions && text.contains("cfg")
 }
 
-// Warns of a text for its conditions. `name` is its file's.
-fn warn(rt: &HostRuntime, options: &Options<AnyGrammar>, name: &str, text: &[u8]) {
+/// Warns of a text for its conditions. `name` is its file's.
+pub(crate) fn warn(rt: &HostRuntime, options: &Options<AnyGrammar>, name: &str, text: &[u8]) {
     let Ok(text) = std::str::from_utf8(text) else {
         return;
     };
@@ -228,9 +229,26 @@ fn under(options: Options<AnyGrammar>, cfg: Option<CfgOptions>) -> Options<AnyGr
     }
 }
 
+// The status of work that may have ended before its end.
+fn ended(done: Result<ExitCode, Ended>) -> io::Result<ExitCode> {
+    match done {
+        Ok(status) | Err(Ended::Status(status)) => Ok(status),
+        Err(Ended::Failed(error)) => Err(error),
+    }
+}
+
 /// Does a job. The status is 2 where a word for `cfg` names no option, or one of its files cannot
 /// be opened.
 pub(crate) fn perform(rt: &HostRuntime, job: Job<'_>) -> io::Result<ExitCode> {
+    if let Some(root) = job.root {
+        return ended(perform_crate(rt, &job, root));
+    }
+    if job.action == Action::Macros {
+        return misused(rt, "macros", &"it takes --crate");
+    }
+    if job.files.len() > 1 {
+        return misused(rt, "several files", &"they take --crate");
+    }
     let cfg = match cfg_of(rt.alloc(), job.cfg.as_slice())? {
         Ok(cfg) => cfg,
         Err(word) => return misused(rt, word, &"no option for cfg"),

@@ -13,4 +13,7 @@ returns-clause-words c = record {
   has_with = c.in_ok-words_of.ensures;
   has_cfg = c.in_ok-words_of-2.ensures;
   has_file = file_is (λ s. s.now) (found_of c.args.matches.now) (codes "file") c.get_str-2.result _ c.get_str-2.ensures c.file_of.ensures;
+  has_files = c.in_ok-words_of-3.ensures;
+  has_externs = c.in_ok-words_of-4.ensures;
+  has_root = option_is (λ s. s.now) (found_of c.args.matches.now) (codes "crate") c.get_str-3.result c.get_str-3.ensures;
 }

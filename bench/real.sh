@@ -1,0 +1,46 @@
+#!/bin/bash
+# bench/real.sh [FOLDER..]: whole crates, each from its root. Of the calls of macros in their files it prints which have a
+# definition that `filgordd macros` lists, by where that is from, and which have none, by why. Then, of the files
+# expanded by `filgordd expand --crate`, how many have no fault, how many calls of a listed macro are still printed, and how
+# many of those that rustfmt accepts have an expansion that it accepts too.
+# With no FOLDER it downloads packages of Debian into a folder for the while, and rust-src, by apt-get; PACKAGES names
+# others. STD is the folder `library` of an installed rust-src; a downloaded one is used where it is not said. FILGORDD is
+# the program, by default that of bin/filgordd, which is proved and built first. FILES, by default 100000, is how many
+# files are expanded at most: with 0 none is. It needs rustc, rustfmt and python3 3.11.
+# shellcheck source=bench/common.sh
+. "$(dirname "$(readlink -f "${BASH_SOURCE[0]}")")/common.sh"
+export PYTHONPATH=$top/bench/survey:$top/bench/agreement PYTHONDONTWRITEBYTECODE=1
+default='anyhow bindgen bitflags bytes cc chrono clap crossbeam-utils futures-util hyper indexmap itertools libc log memchr mio
+nom num-traits proc-macro2 quote rand rayon regex semver serde serde-json smallvec syn thiserror time tokio toml tracing-core
+url uuid'
+
+# Downloads packages, and rust-src, and unpacks them: sets `folders`, and `std` where that is not said.
+download() {
+    local package names=(rust-src)
+    for package in ${PACKAGES-$default}; do
+        names+=("librust-$package-dev")
+    done
+    mkdir -p "$work/packages" "$work/unpacked" || exit 2
+    (cd "$work/packages" && apt-get download "${names[@]}" >/dev/null 2>&1) || { echo 'real: apt-get download failed' >&2; exit 2; }
+    for package in "$work"/packages/*.deb; do
+        dpkg -x "$package" "$work/unpacked" || exit 2
+    done
+    folders=("$work/unpacked/usr/share/cargo/registry")
+    [ -n "$std" ] || std=$(echo "$work"/unpacked/usr/src/rustc-*/library)
+}
+
+std=${STD-}
+folders=("$@")
+for folder in "$@"; do
+    [ -d "$folder" ] || { echo "real: there is no folder $folder" >&2; exit 2; }
+done
+[ $# != 0 ] || download
+[ -f "$std/core/src/macros/mod.rs" ] || { echo 'real: there is no source of std; STD can name it' >&2; exit 2; }
+program=${FILGORDD-}
+if [ -z "$program" ]; then
+    "$top/bin/filgordd" expand </dev/null || exit 2
+    program=$top/crates/filgordd/out/filgordd
+fi
+rustc --version
+echo "std: ${std##*/unpacked}"
+python3 "$top/bench/real/kinds.py" "$program" "$std" "${FILES:-100000}" "${folders[@]}"

@@ -1,0 +1,220 @@
+//! Does a job on files of a crate.
+
+use crate::chosen::{Chosen, chosen_files};
+use crate::conditions::cfg_of;
+use crate::disk::{Disk, code_in};
+use crate::files::{misused, opened, refused};
+use crate::job::{Action, Job};
+use crate::lacking::tell_lacks;
+use crate::layout::{Run, laid_out, run_in_memory};
+use crate::listing::listed;
+use crate::load::{Ended, fault_words, refusal};
+use crate::shown::push_shown;
+use crate::whole::{Whole, prelude_of_file, whole_from};
+use crate::work::warn;
+use any_grammar::AnyGrammar;
+use cfg_options::CfgOptions;
+use crate_walk::Content;
+use expander::{Dialect, Options, Prelude, Watched};
+use expander_run::program::put;
+use std::io::Write;
+use std::process::ExitCode;
+use std::{env, io};
+
+// The set of the options that a job's words for `cfg` name: an empty one without a word.
+fn set_of(rt: &HostRuntime, job: &Job<'_>) -> Result<CfgOptions, Ended> {
+    match cfg_of(rt.alloc(), job.cfg.as_slice())? {
+        Ok(Some(set)) => Ok(set),
+        Ok(None) => Ok(CfgOptions::new(rt.alloc())),
+        Err(word) => Err(Ended::Status(misused(rt, word, &"no option for cfg")?)),
+    }
+}
+
+// The options of a job, for one more text.
+fn options_of(rt: &HostRuntime, job: &Job<'_>) -> Result<Options<AnyGrammar>, Ended> {
+    let set = set_of(rt, job)?;
+    let dialect = &job.options.dialect;
+    Ok(Options {
+        grammar: job.options.grammar,
+        edition: job.options.edition,
+        dialect: Dialect {
+            scope: dialect.scope,
+            items: dialect.items,
+            cfg: Some(set),
+            limits: dialect.limits,
+        },
+        depth: job.options.depth,
+    })
+}
+
+// The folder in which the program runs, or nothing where that is not told.
+fn folder_of(rt: &HostRuntime) -> Result<String, Ended> {
+    match env::current_dir(rt) {
+        Ok(folder) => Ok(folder.into_string()),
+        Err(_) => Ok(String::new(rt.alloc())),
+    }
+}
+
+// Reports the faults of a run, each with the name of its file.
+fn tell_faults(rt: &HostRuntime, shown: &str, told: &[u8]) -> io::Result<()> {
+    let told = String::from_utf8_lossy(rt.alloc(), told)?;
+    let mut name = String::new(rt.alloc());
+    push_shown(&mut name, shown)?;
+    for line in told.as_str().lines() {
+        eprintln!(rt; "{name}: {line}")?;
+    }
+    Ok(())
+}
+
+// Writes the line with the name of a file where there are several.
+fn put_head<W: Write>(
+    rt: &HostRuntime,
+    writer: &mut Watched<W>,
+    job: &Job<'_>,
+    shown: &str,
+) -> io::Result<()> {
+    if job.files.len() != 1 {
+        let mut line = String::from_str(rt.alloc(), "// ")?;
+        push_shown(&mut line, shown)?;
+        line.push('\n')?;
+        put(writer, line.as_bytes());
+    }
+    Ok(())
+}
+
+// Prints what a run printed, behind a line with the name of its file where there are several.
+fn print_run(rt: &HostRuntime, job: &Job<'_>, shown: &str, run: &Run) -> io::Result<bool> {
+    let mut writer = Watched::new(rt.stdout());
+    put_head(rt, &mut writer, job, shown)?;
+    if job.layout {
+        let laid = laid_out(rt.alloc(), run.printed.as_slice())?;
+        put(&mut writer, laid.as_bytes());
+    } else {
+        put(&mut writer, run.printed.as_slice());
+    }
+    Ok(!writer.failed())
+}
+
+// Expands a text of a crate after these definitions, and answers whether it has no fault.
+fn expand_text(
+    rt: &HostRuntime,
+    job: &Job<'_>,
+    shown: &str,
+    prelude: Prelude,
+    text: &[u8],
+) -> Result<bool, Ended> {
+    let options = options_of(rt, job)?;
+    warn(rt, &options, shown, text);
+    let Some(run) = run_in_memory(rt.alloc(), options, prelude, text) else {
+        return refusal(rt, shown, "out of memory");
+    };
+    if !print_run(rt, job, shown, &run)? {
+        return refusal(rt, shown, "write failed");
+    }
+    tell_faults(rt, shown, run.told.as_slice())?;
+    Ok(run.status == 0)
+}
+
+// Expands a file that could not be read when the crate was walked through, which tells why.
+fn expand_unread(rt: &HostRuntime, job: &Job<'_>, shown: &str, name: &str) -> Result<bool, Ended> {
+    match code_in(rt, name) {
+        Ok(bytes) => {
+            let prelude = Prelude::new(rt.alloc());
+            expand_text(rt, job, shown, prelude, bytes.as_slice())?;
+        }
+        Err(error) => {
+            misused(rt, shown, &error)?;
+        }
+    }
+    Ok(false)
+}
+
+// Expands a file of a crate, and answers whether it has no fault.
+fn expand_file(
+    rt: &HostRuntime,
+    job: &Job<'_>,
+    whole: &Whole,
+    file: usize,
+    shown: &str,
+) -> Result<bool, Ended> {
+    match whole.walked.modules.content(file) {
+        Some(Content::Text(text, _)) => match prelude_of_file(rt.alloc(), whole, file) {
+            Ok(prelude) => expand_text(rt, job, shown, prelude, text.as_bytes()),
+            Err(fault) => refusal(rt, shown, fault_words(fault)),
+        },
+        _ => {
+            let name = whole.walked.modules.file_name(file).unwrap_or(shown);
+            expand_unread(rt, job, shown, name)
+        }
+    }
+}
+
+// Reports a file that is none of the crate, or cannot be opened.
+fn tell_stranger(rt: &HostRuntime, shown: &str) -> io::Result<ExitCode> {
+    match opened(rt, shown) {
+        Ok(_) => refused(rt, shown, "this is no file of the crate"),
+        Err(error) => misused(rt, shown, &error),
+    }
+}
+
+// Lists what a file of a crate sees.
+fn list_file(
+    rt: &HostRuntime,
+    job: &Job<'_>,
+    whole: &Whole,
+    file: usize,
+    shown: &str,
+) -> Result<bool, Ended> {
+    let folder = folder_of(rt)?;
+    let lines = listed(rt.alloc(), whole, file, folder.as_str())?;
+    let mut writer = Watched::new(rt.stdout());
+    put_head(rt, &mut writer, job, shown)?;
+    if put(&mut writer, lines.as_bytes()) {
+        Ok(true)
+    } else {
+        refusal(rt, shown, "write failed")
+    }
+}
+
+// Does a job on one file, and answers whether it has no fault.
+fn answer_file(
+    rt: &HostRuntime,
+    job: &Job<'_>,
+    whole: &Whole,
+    chosen: &Chosen,
+) -> Result<bool, Ended> {
+    let shown = chosen.shown.as_str();
+    match chosen.file {
+        Some(file) if job.action == Action::Macros => { list_file(rt, job, whole, file, shown) }
+        Some(file) => expand_file(rt, job, whole, file, shown),
+        None => {
+            tell_stranger(rt, shown)?;
+            Ok(false)
+        }
+    }
+}
+
+/// Does a job on the files of the crate with this root. The status is 0 if no file has a fault.
+pub(crate) fn perform_crate(
+    rt: &HostRuntime,
+    job: &Job<'_>,
+    root: &str,
+) -> Result<ExitCode, Ended> {
+    let set = set_of(rt, job)?;
+    let disk = Disk { rt, options: &set };
+    let whole = whole_from(rt, job, &disk, root)?;
+    let modules = &whole.walked.modules;
+    let folder = folder_of(rt)?;
+    tell_lacks(rt, modules, folder.as_str())?;
+    let words = job.files.as_slice();
+    let files = chosen_files(rt.alloc(), &disk, modules, words, folder.as_str())?;
+    let mut faultless = true;
+    for chosen in &files {
+        faultless &= answer_file(rt, job, &whole, chosen)?;
+    }
+    Ok(if faultless {
+        ExitCode::SUCCESS
+    } else {
+        ExitCode::FAILURE
+    })
+}
