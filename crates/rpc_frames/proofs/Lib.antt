@@ -1,0 +1,4 @@
+pub mod HeadLemmas
+pub mod StreamLemmas
+pub mod WrittenLemmas
+pub mod Rows
