@@ -12,10 +12,13 @@ with_front front rest = option_map (λ changes. front ++ changes) rest
 
 -- one more is read
 more_by : (front : List Change) (c : Change) (rest : Option (List Change))
-    → with_front front (option_map (λ changes. c ∷ changes) rest) ≡ with_front (front ++ c ∷ []) rest
+    → with_front front (option_map (λ changes. c ∷ changes) rest)
+    ≡ with_front (front ++ c ∷ []) rest
 more_by front c None = refl
-more_by front c (Some changes) = ap (λ (all : List Change). Some all) (sym (append_assoc front (c ∷ []) changes))
+more_by front c (Some changes) =
+    ap (λ (all : List Change). Some all) (sym (append_assoc front (c ∷ []) changes))
 
+-- what is read of a rest is its first change and what is read behind it
 pub one_more : (front : List Change) (values : List Value) (i : ℕ) (value : Value) (c : Change)
     → i < length values → value ≡ get_or values i value → change_of (view value) ≡ Some c
     → with_front front (changes_of (items_view (drop i values)))
@@ -26,6 +29,7 @@ one_more front values i value c within is read =
     ∙ ap (λ (v : Value). v ∷ drop (i + 1) values) (sym is) in
     rw (first, read) (more_by front c (changes_of (items_view (drop (i + 1) values))))
 
+-- nothing is read of a rest that begins with no change
 pub none_read : (front : List Change) (values : List Value) (i : ℕ) (value : Value)
     → i < length values → value ≡ get_or values i value → change_of (view value) ≡ None
     → with_front front (changes_of (items_view (drop i values))) ≡ None
@@ -38,4 +42,5 @@ none_read front values i value within is read =
 -- nothing is left to read
 pub all_read : (front : List Change) (values : List Value) (i : ℕ) → length values ≤ i
     → with_front front (changes_of (items_view (drop i values))) ≡ Some front
-all_read front values i past = rw (drop_all i values past) (ap (λ (all : List Change). Some all) (append-nil front))
+all_read front values i past =
+    rw (drop_all i values past) (ap (λ (all : List Change). Some all) (append-nil front))

@@ -1,2 +1,4 @@
 -- what public contracts rest on
 pub mod Protocol
+pub mod Workspaces
+pub mod Steps

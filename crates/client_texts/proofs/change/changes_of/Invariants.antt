@@ -8,5 +8,6 @@ use Rattle.client_texts.proofs.change.changes_of.Given as given
 -- the changes so far and those of the rest are all
 abbrev pub invariant-loop-value : given.invariant-loop-value
 invariant-loop-value l =
-    with_front (map change_view l.changes.items) (changes_of (items_view (drop l.value-index l.values)))
+    with_front (map change_view l.changes.items)
+    (changes_of (items_view (drop l.value-index l.values)))
     ≡ changes_of (items_view l.values)
