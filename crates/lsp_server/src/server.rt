@@ -227,7 +227,11 @@ impl<W: Workspace> Server<W> {
             (map view outs.items) self.new) }
     {
         match read_message(message) {
-            Incoming::Request(id, call) => one(self.alloc, self.answer(id, call)?),
+            Incoming::Request(id, call) => {
+                let answer = self.answer(id, call)?;
+                let answers = one(self.alloc, answer)?;
+                Ok(answers)
+            }
             Incoming::Note(call) => self.take_note(call),
             Incoming::Answer => Ok(Vec::new(self.alloc)),
             Incoming::Bad => one(
