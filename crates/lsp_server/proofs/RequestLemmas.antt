@@ -6,7 +6,7 @@ use Rattle.serde_json.specs.Find.{get}
 use Rattle.rpc_messages.specs.Messages.{answered, asked, method_of}
 use Rattle.client_texts.specs.Texts.{Document}
 use Rattle.lsp_server.specs.Protocol.{known_method, method_named, phase_asked, refused, refused_by}
-use Rattle.lsp_server.specs.Steps.{Serving, Takes, error, phase_after, phase_by, refusal_of, refused_as, asked_of, note_in, TextsFollow}
+use Rattle.lsp_server.specs.Steps.{Serving, Takes, error, phase_after, phase_by, refusal_of, refused_as, note_in}
 use Rattle.lsp_server.specs.declared.phase.Phase.{Phase}
 use Rattle.lsp_server.specs.declared.phase.ErrorCode.{ErrorCode}
 
@@ -62,13 +62,13 @@ pub takes_request : {W : Type 0} (documents : W → List Document) (old new : Se
     → get (codes "id") message ≡ Some id → IsSome (get (codes "method") message)
     → name ≡ method_of message → get (codes "id") answer ≡ Some id
     → ((code : ErrorCode) → refused_by old.phase name (option_and_then method_named name) ≡ Some code
-        → answer ≡ error code id)
+    → answer ≡ error code id)
     → new.phase ≡ phase_asked old.phase (option_and_then method_named name)
     → documents new.workspace ≡ documents old.workspace
     → outs ≡ answer ∷ []
     → Takes documents old (Some message) outs new
 takes_request documents old new message id answer name outs is some named answers refuses phase texts all =
     rw all (takes_by documents old new message id answer (get (codes "method") message) refl some is answers
-        (λ code given. refuses code (ap (λ (n : Option (List ℕ)). refused_by old.phase n (option_and_then method_named n)) named ∙ given))
-        (phase ∙ ap (λ (n : Option (List ℕ)). phase_asked old.phase (option_and_then method_named n)) named)
-        texts)
+    (λ code given. refuses code (ap (λ (n : Option (List ℕ)). refused_by old.phase n (option_and_then method_named n)) named ∙ given))
+    (phase ∙ ap (λ (n : Option (List ℕ)). phase_asked old.phase (option_and_then method_named n)) named)
+    texts)

@@ -2,7 +2,6 @@
 -- refuses. (LSP 3.17, "Server lifecycle" and "Error codes".)
 use Rattle.std.specs.Prelude.{ℕ, true, false, List, bytes_eq, codes, if◌then◌else◌, Option, Some, None, option_and_then}
 use Rattle.serde_json.specs.Data.{Data}
-use Rattle.serde_json.specs.Find.{get}
 use Rattle.rpc_messages.specs.Messages.{method_of}
 use Rattle.client_texts.specs.Params.{Note, closed_in, edited_in, opened_in}
 use Rattle.lsp_server.specs.declared.method.Method.{Method}

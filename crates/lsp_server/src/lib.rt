@@ -6,10 +6,12 @@ mod capabilities;
 mod errors;
 mod method;
 mod phase;
+mod run;
 mod server;
 mod workspace;
 
 pub use method::Method;
 pub use phase::{ErrorCode, Phase};
+pub use run::{Stop, serve};
 pub use server::Server;
 pub use workspace::{Question, Workspace};
