@@ -1,6 +1,6 @@
 -- The texts that a client has open, and what it does to them. (LSP 3.17, "Text Document
 -- Synchronization".)
-use Rattle.std.specs.Prelude.{ℕ, ℤ, not, List, [], ◌∷◌, ◌++◌, bytes_eq, drop, filter, if◌then◌else◌, map, min, take}
+use Rattle.std.specs.Prelude.{ℕ, ℤ, List, [], ◌∷◌, ◌++◌, bytes_eq, drop, if◌then◌else◌, min, take}
 use Rattle.line_index.specs.Lines.{offset_of}
 use Rattle.client_texts.specs.Params.{Change, whole, part, Note, opened, edited, closed, Place}
 
@@ -29,18 +29,25 @@ pub record Document : Type 0 where
   pub version : ℤ
   pub text : List ℕ
 
--- the other documents
+-- the documents but for the first of this name
 abbrev pub without : List ℕ → List Document → List Document
-without uri documents = filter (λ d. not (bytes_eq uri d.uri)) documents
+without uri [] = []
+without uri (d ∷ ds) = if bytes_eq uri d.uri then ds else d ∷ without uri ds
 
--- a document after changes, if they are its own
-abbrev pub with_changes : List ℕ → ℤ → List Change → Document → Document
-with_changes uri version changes d = if bytes_eq uri d.uri
-    then record { uri = d.uri; version = version; text = after_changes changes d.text } else d
+-- a document after changes
+abbrev pub after_edit : ℤ → List Change → Document → Document
+after_edit version changes d =
+    record { uri = d.uri; version = version; text = after_changes changes d.text }
+
+-- the documents, with the first of this name after changes
+abbrev pub with_edit : List ℕ → ℤ → List Change → List Document → List Document
+with_edit uri version changes [] = []
+with_edit uri version changes (d ∷ ds) = if bytes_eq uri d.uri
+    then after_edit version changes d ∷ ds else d ∷ with_edit uri version changes ds
 
 -- what is open after what a client tells: one that is opened is open once
 abbrev pub after : Note → List Document → List Document
 after (opened uri version text) documents =
     without uri documents ++ record { uri = uri; version = version; text = text } ∷ []
-after (edited uri version changes) documents = map (with_changes uri version changes) documents
+after (edited uri version changes) documents = with_edit uri version changes documents
 after (closed uri) documents = without uri documents

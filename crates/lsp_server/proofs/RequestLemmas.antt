@@ -22,7 +22,8 @@ phase_same phase message method id has is =
     ap (λ (m : Option Data). phase_by phase message m (get (codes "id") message)) has
     ∙ ap (λ (i : Option Data). phase_by phase message (Some method) i) is
 
-refusal_same : (phase : Phase) (message method id : Data) → get (codes "method") message ≡ Some method
+refusal_same : (phase : Phase) (message method id : Data) → get (codes "method") message
+    ≡ Some method
     → get (codes "id") message ≡ Some id
     → refusal_of phase (Some message) ≡ refused phase message
 refusal_same phase message method id has is =
@@ -52,7 +53,8 @@ takes_by documents old new message id answer (Some method) has some is answers r
       texts = rw (no_note old.phase message method id has is)
           (texts, ap (λ (ids : List Data). length ids) (sym one));
       errors = λ code given.
-          ap (λ (a : Data). a ∷ []) (refuses code (sym (refusal_same old.phase message method id has is) ∙ given))
+          ap (λ (a : Data). a ∷ []) (refuses code (sym
+          (refusal_same old.phase message method id has is) ∙ given))
           ∙ ap (λ (ids : List Data). map (error code) ids) (sym one);
     }
 
@@ -61,14 +63,19 @@ pub takes_request : {W : Type 0} (documents : W → List Document) (old new : Se
     (message id answer : Data) (name : Option (List ℕ)) (outs : List Data)
     → get (codes "id") message ≡ Some id → IsSome (get (codes "method") message)
     → name ≡ method_of message → get (codes "id") answer ≡ Some id
-    → ((code : ErrorCode) → refused_by old.phase name (option_and_then method_named name) ≡ Some code
+    → ((code : ErrorCode) → refused_by old.phase name (option_and_then method_named name)
+    ≡ Some code
     → answer ≡ error code id)
     → new.phase ≡ phase_asked old.phase (option_and_then method_named name)
     → documents new.workspace ≡ documents old.workspace
     → outs ≡ answer ∷ []
     → Takes documents old (Some message) outs new
-takes_request documents old new message id answer name outs is some named answers refuses phase texts all =
-    rw all (takes_by documents old new message id answer (get (codes "method") message) refl some is answers
-    (λ code given. refuses code (ap (λ (n : Option (List ℕ)). refused_by old.phase n (option_and_then method_named n)) named ∙ given))
-    (phase ∙ ap (λ (n : Option (List ℕ)). phase_asked old.phase (option_and_then method_named n)) named)
+takes_request documents old new message id answer name outs is some named answers refuses phase
+    texts all =
+    rw all (takes_by documents old new message id answer (get
+    (codes "method") message) refl some is answers
+    (λ code given. refuses code (ap (λ (n : Option (List ℕ)). refused_by old.phase n
+    (option_and_then method_named n)) named ∙ given))
+    (phase ∙ ap (λ (n : Option (List ℕ)). phase_asked old.phase
+    (option_and_then method_named n)) named)
     texts)

@@ -69,8 +69,10 @@ sent_one messages i message texts text a b c within is prints print went goes =
     let views : map view (take (i + 1) messages) ≡ map view (take i messages) ++ view message ∷ [] =
     ap (map view) more ∙ map-append view (take i messages) (message ∷ []) in
     let bytes : flat_map framed (texts ++ text ∷ []) ≡ flat_map framed texts ++ framed text =
-    flat_map-append framed texts (text ∷ []) ∙ ap (λ (t : List ℕ). flat_map framed texts ++ t) (append-nil (framed text)) in (
+    flat_map-append framed texts (text ∷ []) ∙ ap (λ (t : List ℕ). flat_map framed texts ++ t)
+    (append-nil (framed text)) in (
       texts ++ text ∷ [],
-      rw views (prints_more (map view (take i messages)) (view message ∷ []) texts (text ∷ []) prints (print, tt)),
+      rw views (prints_more (map view (take i messages)) (view message ∷ []) texts
+          (text ∷ []) prints (print, tt)),
       rw bytes (appends_more a b c (flat_map framed texts) (framed text) went goes),
     )

@@ -82,7 +82,8 @@ served_same documents old new comes x y z rest to goes =
         once = s.once;
         texts = s.texts;
         prints = s.prints;
-        went = rw (← append-nil (flat_map framed s.texts)) (appends_more x y z (flat_map framed s.texts) [] s.went goes);
+        went = rw (← append-nil (flat_map framed s.texts)) (appends_more x y z
+            (flat_map framed s.texts) [] s.went goes);
       },
       to.1,
     )
@@ -105,11 +106,13 @@ are_more [] f are is = (is, tt)
 are_more (g ∷ gs) f are is = (are.0, are_more gs f are.1 is)
 
 -- the ids of the answers among messages, and more of them
-with_id-append : (id : Option Data) (ids more : List Data) → with_id id (ids ++ more) ≡ with_id id ids ++ more
+with_id-append : (id : Option Data) (ids more : List Data) → with_id id (ids ++ more)
+    ≡ with_id id ids ++ more
 with_id-append None ids more = refl
 with_id-append (Some id) ids more = refl
 
-answered-append : (messages more : List Data) → answered (messages ++ more) ≡ answered messages ++ answered more
+answered-append : (messages more : List Data) → answered (messages ++ more)
+    ≡ answered messages ++ answered more
 answered-append [] more = refl
 answered-append (m ∷ ms) more =
     ap (λ (ids : List Data). with_id (get (codes "id") m) ids) (answered-append ms more)
@@ -154,9 +157,11 @@ served_frame documents old middle new comes x y z rest more body f to is cut sam
     let all : all_of (s.outs ++ answers.outs ∷ []) ≡ all_of s.outs ++ answers.outs =
     flat_map-append (λ (messages : List Data). messages) s.outs (answers.outs ∷ [])
     ∙ ap (λ (ds : List Data). all_of s.outs ++ ds) (append-nil answers.outs) in
-    let bytes : flat_map framed (s.texts ++ answers.texts) ≡ flat_map framed s.texts ++ flat_map framed answers.texts =
+    let bytes : flat_map framed (s.texts ++ answers.texts)
+    ≡ flat_map framed s.texts ++ flat_map framed answers.texts =
     flat_map-append framed s.texts answers.texts in
-    let runs : Runs documents old (map (λ (g : Frame). g.body) s.frames ++ body ∷ []) (s.outs ++ answers.outs ∷ []) new =
+    let runs : Runs documents old (map (λ (g : Frame). g.body) s.frames ++ body ∷ [])
+    (s.outs ++ answers.outs ∷ []) new =
     runs_more documents old middle new (map (λ (g : Frame). g.body) s.frames) s.outs body
     answers.outs s.runs answers.steps in (
       record {
@@ -166,10 +171,13 @@ served_frame documents old middle new comes x y z rest more body f to is cut sam
         came = rw stream s.came;
         outs = s.outs ++ answers.outs ∷ [];
         runs = rw bodies runs;
-        once = rw bodies (answered_once documents old new (map (λ (g : Frame). g.body) s.frames ++ body ∷ []) (s.outs ++ answers.outs ∷ []) runs);
+        once = rw bodies (answered_once documents old new (map (λ
+            (g : Frame). g.body) s.frames ++ body ∷ []) (s.outs ++ answers.outs ∷ []) runs);
         texts = s.texts ++ answers.texts;
-        prints = rw all (prints_more (all_of s.outs) answers.outs s.texts answers.texts s.prints answers.prints);
-        went = rw bytes (appends_more x y z (flat_map framed s.texts) (flat_map framed answers.texts) s.went answers.went);
+        prints = rw all (prints_more
+            (all_of s.outs) answers.outs s.texts answers.texts s.prints answers.prints);
+        went = rw bytes (appends_more x y z (flat_map framed s.texts)
+            (flat_map framed answers.texts) s.went answers.went);
       },
       refl,
     )
@@ -183,7 +191,8 @@ pub served_turn : {W : Type 0} (documents : W → List Document) (old middle new
 served_turn {W} documents old middle new a b c x y z rest more to (inl takes) =
     let t = takes.0 in
     let read : ServedTo documents old middle (Consumes a c) (Appends x y) rest =
-    served_piece documents old middle a b c (Appends x y) rest rest [] to takes.1 (sym (append-nil rest)) in
+    served_piece documents old middle a b c (Appends x y) rest rest [] to takes.1 (sym
+    (append-nil rest)) in
     served_frame documents old middle new (Consumes a c) x y z rest more t.frame.body t.frame read
     t.is t.cut refl t.answers
 served_turn {W} documents old middle new a b c x y z rest more to (inr comes) =
@@ -191,4 +200,5 @@ served_turn {W} documents old middle new a b c x y z rest more to (inr comes) =
     served_same documents old middle (Consumes a b) x y z rest to comes.4 in
     let read : ServedTo documents old middle (Consumes a c) (Appends x z) more =
     served_piece documents old middle a b c (Appends x z) rest more comes.0 wrote comes.2 comes.1 in
-    subst (λ (s : Serving W). ServedTo documents old s (Consumes a c) (Appends x z) more) (sym comes.3) read
+    subst (λ (s : Serving W). ServedTo documents old s (Consumes a c) (Appends x z) more)
+    (sym comes.3) read

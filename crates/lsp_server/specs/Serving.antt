@@ -17,7 +17,8 @@ abbrev pub Runs : {W : Type 0} → (W → List Document) → (old : Serving W) �
     → List (List Data) → (new : Serving W) → Type 0
 Runs documents old [] [] new = new ≡ old
 Runs {W} documents old (body ∷ bodies) (outs ∷ more) new =
-    (middle : Serving W) × Steps documents old body outs middle × Runs documents middle bodies more new
+    (middle : Serving W) × Steps documents old body outs middle
+    × Runs documents middle bodies more new
 Runs documents old _ _ new = ⊥
 
 -- a text is a message's: its compact JSON, which reads as the message

@@ -26,7 +26,8 @@ loop-preserved g c =
 
 pub returns-then-is_over : goal.returns-then-is_over
 returns-then-is_over g c =
-    let to = served_turn g.D.Workspace.documents (record { phase = New; workspace = c.args.workspace })
+    let to = served_turn g.D.Workspace.documents
+    (record { phase = New; workspace = c.args.workspace })
     c.loop.server c.turn.new.server (g.R.Read.remaining c.args.reader.now)
     (g.R.Read.remaining c.loop.reader) (g.R.Read.remaining c.turn.new.reader)
     (g.W.Write.contents c.args.writer.now) (g.W.Write.contents c.loop.writer)
