@@ -1,5 +1,5 @@
 -- Messages of JSON-RPC 2.0, as values. (JSON-RPC 2.0 Specification, 4 and 5.)
-use Rattle.std.specs.Prelude.{◌≡◌, ℕ, List, [], ◌∷◌, codes, Option, Some, None, option_and_then, option_map}
+use Rattle.std.specs.Prelude.{◌≡◌, ℕ, List, [], ◌∷◌, codes, IsSome, Option, Some, None, option_and_then, option_map}
 use Rattle.serde_json.specs.Data.{Num, Data, null, number, string, object, Members, member, no_members}
 use Rattle.serde_json.specs.Find.{as_str, get}
 use Rattle.serde_json.specs.View.{view}
@@ -32,17 +32,21 @@ wanted (Note call) = []
 wanted Answer = []
 wanted Bad = null ∷ []
 
--- a call's method and parameters
+-- a call's method and parameters are the message's
 pub record Asks (message : Data) (call : Call) : Type 0 where
+  pub has_method : IsSome (get (codes "method") message)
   pub method : option_map (λ m. m.now) call.method ≡ method_of message
   pub params : option_map (λ p. view p.now) call.params ≡ get (codes "params") message
 
--- a message was read as this: its calls have its method and its parameters
+-- a message was read as this, by whether it has a method and an id
 abbrev pub IsReadAs : Data → Incoming → Type 0
-IsReadAs message (Request id call) = Asks message call
-IsReadAs message (Note call) = Asks message call
-IsReadAs message Answer = get (codes "method") message ≡ None
-IsReadAs message Bad = get (codes "method") message ≡ None
+IsReadAs message (Request id call) =
+    (get (codes "id") message ≡ Some (view id.now)) × Asks message call
+IsReadAs message (Note call) = (get (codes "id") message ≡ None) × Asks message call
+IsReadAs message Answer =
+    IsSome (get (codes "id") message) × (get (codes "method") message ≡ None)
+IsReadAs message Bad =
+    (get (codes "id") message ≡ None) × (get (codes "method") message ≡ None)
 
 -- ---- what goes
 

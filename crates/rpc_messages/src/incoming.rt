@@ -1,5 +1,6 @@
 //! What a message is.
-ghost use Rattle.std.specs.Prelude.{◌≡◌};
+ghost use Rattle.std.specs.Prelude.{◌≡◌, IsSome, codes};
+ghost use Rattle.serde_json.specs.Find.{get};
 ghost use Rattle.serde_json.specs.View.{view};
 ghost use Rattle.rpc_messages.specs.Messages.{Asks, IsReadAs, asked, wanted};
 
@@ -26,7 +27,9 @@ pub enum Incoming<'a> {
     Bad,
 }
 
+// The method and the parameters of a message that has a method.
 fn call_of(message: &Value) -> Call<'_>
+    requires { IsSome (get (codes "method") (view message.now)) }
     ensures { Asks (view message.now) result }
 {
     Call {

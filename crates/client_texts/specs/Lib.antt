@@ -1,0 +1,4 @@
+-- what public contracts rest on
+pub mod Params
+pub mod Texts
+pub mod Views

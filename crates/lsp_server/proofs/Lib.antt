@@ -1,0 +1,3 @@
+pub mod RequestLemmas
+pub mod SendLemmas
+pub mod ServedLemmas
