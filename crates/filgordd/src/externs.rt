@@ -18,16 +18,28 @@ pub(crate) struct Extern {
     pub(crate) walked: Walked,
 }
 
+// The crate with this root file, which a word names. Its sources have the numbers behind this one.
+fn rooted_at(
+    rt: &HostRuntime,
+    disk: &Disk<'_>,
+    word: &str,
+    home: Option<Home>,
+    root: &str,
+    last: u32,
+) -> Result<Extern, Ended> {
+    let Some(home) = home else {
+        return wrong(rt, word, "NAME@EDITION=ROOT is wanted");
+    };
+    let walked = crate_from(rt, disk, root, last, Some(&home))?;
+    Ok(Extern { home, walked })
+}
+
 // The crate that a word names, whose sources have the numbers behind this one.
 fn extern_of(rt: &HostRuntime, disk: &Disk<'_>, word: &str, last: u32) -> Result<Extern, Ended> {
     match other_of(rt.alloc(), word)? {
-        Other::File(Some(home), root) => {
-            let walked = crate_from(rt, disk, root, last, Some(&home))?;
-            Ok(Extern { home, walked })
-        }
+        Other::File(home, root) => rooted_at(rt, disk, word, home, root, last),
         Other::BadRoot(_) => wrong(rt, word, "this is no name of a crate"),
         Other::BadEdition(_) => wrong(rt, word, "there is no such edition"),
-        Other::File(None, _) => wrong(rt, word, "NAME@EDITION=ROOT is wanted"),
     }
 }
 

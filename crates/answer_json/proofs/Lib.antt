@@ -1,4 +1,0 @@
--- lemmas by subject; the worked examples
-mod ListLemmas
-mod DepthLemmas
-mod Rows

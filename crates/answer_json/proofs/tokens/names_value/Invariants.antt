@@ -1,8 +1,0 @@
-use Rattle.std.proofs.Common.{◌≡◌, map, take, string_bytes}
-use Rattle.serde_json.specs.Data.{string}
-use Rattle.serde_json.specs.View.{view}
-use Rattle.answer_json.proofs.tokens.names_value.Given as given
-
-abbrev pub invariant-loop-name : given.invariant-loop-name
-invariant-loop-name l =
-    map view l.list.items ≡ map string (map string_bytes (take l.name-index l.names))

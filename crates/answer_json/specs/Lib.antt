@@ -1,4 +1,0 @@
--- what public contracts rest on
-pub mod Lines
--- what the functions inside the crate promise each other
-pub mod Spots
