@@ -17,7 +17,7 @@ use cfg_options::CfgOptions;
 use crate_walk::Content;
 use expander::{Dialect, Options, Prelude, Watched};
 use expander_run::program::put;
-use std::io::Write;
+use std::alloc::{AllocError, Global};
 use std::process::ExitCode;
 use std::{env, io};
 
@@ -66,33 +66,35 @@ fn tell_faults(rt: &HostRuntime, shown: &str, told: &[u8]) -> io::Result<()> {
     Ok(())
 }
 
-// Writes the line with the name of a file where there are several.
-fn put_head<W: Write>(
-    rt: &HostRuntime,
-    writer: &mut Watched<W>,
-    job: &Job<'_>,
-    shown: &str,
-) -> io::Result<()> {
+// The line with the name of a file where there are several, and else nothing.
+fn head_of(alloc: Global, job: &Job<'_>, shown: &str) -> Result<String, AllocError> {
+    let mut line = String::new(alloc);
     if job.files.len() != 1 {
-        let mut line = String::from_str(rt.alloc(), "// ")?;
+        line.push_str("// ")?;
         push_shown(&mut line, shown)?;
         line.push('\n')?;
-        put(writer, line.as_bytes());
     }
-    Ok(())
+    Ok(line)
+}
+
+// Whether these bytes were written.
+fn written(rt: &HostRuntime, bytes: &[u8]) -> bool {
+    let mut writer = Watched::new(rt.stdout());
+    put(&mut writer, bytes)
 }
 
 // Prints what a run printed, behind a line with the name of its file where there are several.
+// Answers whether it was written.
 fn print_run(rt: &HostRuntime, job: &Job<'_>, shown: &str, run: &Run) -> io::Result<bool> {
-    let mut writer = Watched::new(rt.stdout());
-    put_head(rt, &mut writer, job, shown)?;
+    let head = head_of(rt.alloc(), job, shown)?;
+    if !written(rt, head.as_bytes()) {
+        return Ok(false);
+    }
     if job.layout {
         let laid = laid_out(rt.alloc(), run.printed.as_slice())?;
-        put(&mut writer, laid.as_bytes());
-    } else {
-        put(&mut writer, run.printed.as_slice());
+        return Ok(written(rt, laid.as_bytes()));
     }
-    Ok(!writer.failed())
+    Ok(written(rt, run.printed.as_slice()))
 }
 
 // Expands a text of a crate after these definitions, and answers whether it has no fault.
@@ -167,9 +169,8 @@ fn list_file(
 ) -> Result<bool, Ended> {
     let folder = folder_of(rt)?;
     let lines = listed(rt.alloc(), whole, file, folder.as_str())?;
-    let mut writer = Watched::new(rt.stdout());
-    put_head(rt, &mut writer, job, shown)?;
-    if put(&mut writer, lines.as_bytes()) {
+    let head = head_of(rt.alloc(), job, shown)?;
+    if written(rt, head.as_bytes()) && written(rt, lines.as_bytes()) {
         Ok(true)
     } else {
         refusal(rt, shown, "write failed")

@@ -1,4 +1,6 @@
 //! A crate on the disk, from its root.
+ghost use Rattle.std.specs.Prelude.{◌≤◌};
+
 use crate::disk::Disk;
 use crate::files::{misused, opened};
 use crate::imports::Imports;

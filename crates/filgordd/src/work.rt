@@ -109,7 +109,7 @@ struct Task {
 // definitions.
 fn may_warn(options: &Options<AnyGrammar>, text: &str) -> bool {
     let has_definitions = options.dialect.cfg.is_some() || text.contains("macro");
-    text.len() <= u32::MAX as usize && has_definitions && text.contains("cfg")
+    has_definitions && text.contains("cfg")
 }
 
 /// Warns of a text for its conditions. `name` is its file's.
@@ -117,7 +117,7 @@ pub(crate) fn warn(rt: &HostRuntime, options: &Options<AnyGrammar>, name: &str, 
     let Ok(text) = std::str::from_utf8(text) else {
         return;
     };
-    if !may_warn(options, text) {
+    if text.len() > u32::MAX as usize || !may_warn(options, text) {
         return;
     }
     if let Ok(lines) = warnings(rt.alloc(), &options.dialect.cfg, name, text) {
