@@ -12,6 +12,7 @@ use Rattle.small_grammar.specs.Text.{same_text}
 use Rattle.tt_data.specs.declared.delimiter.DelimiterKind.{DelimiterKind}
 use Rattle.tt_data.specs.declared.delimiter.DelimiterKind.TheVariants.{Brace}
 use Rattle.tt_data.specs.declared.leaf.Leaf.{Leaf}
+use Rattle.expander_model.specs.declared.fault.FaultKind.{FaultKind}
 use Rattle.expander_model.specs.declared.fault.FaultKind.TheVariants.{CannotExpand, BrokenDefinition, RecursionLimit}
 use Rattle.cfg_options.specs.Options.{options_of}
 use Rattle.cfg_options.specs.Strings.{string_text}
@@ -81,6 +82,26 @@ abbrev pub is_left_out : Standing → Bool
 is_left_out Enclosed = true
 is_left_out Items = true
 is_left_out _ = false
+
+-- a call that fits no rule has no fault: it is in the argument of a call that stays, whose macro may
+-- take it for mere tokens
+abbrev pub is_excused : Dialect → FaultKind → Standing → Bool
+is_excused dialect CannotExpand Argument = dialect.excuses
+is_excused dialect kind standing = false
+
+-- a fault at the name of its outermost call, unless it is excused
+abbrev pub unless_excused : Bool → FaultKind → Span → List (FaultKind × Span)
+unless_excused true kind at = []
+unless_excused false kind at = (kind, at) ∷ []
+
+-- a call that stays as it is in such a list, with its fault, unless that is excused
+abbrev pub stays_in : {D : Type 0} → Dialect → FaultKind → Around → CallSite → Outcome D
+stays_in {D} dialect kind around site =
+    let kept : Outcome D = stays kind around.outer site in
+    record kept {
+      faults = unless_excused (is_excused dialect kind around.standing) kind
+          (unwrap_or around.outer site.at);
+    }
 
 -- a list of items
 abbrev pub is_items : Standing → Bool
@@ -171,7 +192,7 @@ module _ {D : Type 0} (dialect : Dialect) (world : World D) (local : Definition 
   -- a result that fits is replaced by its own expansion, in the scope of the call, and defines for
   -- what follows the call; if none fits the call stays
   abbrev pub fitted : Search D → Around → CallSite → Option Forest → Scoped D
-  fitted search around site None = only (stays CannotExpand around.outer site)
+  fitted search around site None = only (stays_in dialect CannotExpand around site)
   fitted search around site (Some result) =
       search (record around { outer = Some (unwrap_or around.outer site.at) }) result
 

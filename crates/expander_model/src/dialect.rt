@@ -17,11 +17,14 @@ pub struct Dialect {
     pub cfg: Option<CfgOptions>,
     /// How much one outermost call may make. `None` if there is no limit.
     pub limits: Option<Limits>,
+    /// Whether a call in the argument of a call that stays may fit no rule without a fault. The
+    /// macro that is called there is not known, and may take its argument for mere tokens.
+    pub excuses: bool,
 }
 
 impl Dialect {
     /// No option is set: names find pieces of texts alone, each `;` stays, conditions leave nothing
-    /// out, and nothing limits what a call makes.
+    /// out, nothing limits what a call makes, and each call that fits no rule has a fault.
     pub fn top_level() -> Dialect
         ensures { result ≡ top_level }
     {
@@ -30,11 +33,12 @@ impl Dialect {
             items: false,
             cfg: None,
             limits: None,
+            excuses: false,
         }
     }
 
-    /// Rust's rules: names find definitions of lists too, and the `;` of an item's call goes with
-    /// it.
+    /// Rust's rules: names find definitions of lists too, the `;` of an item's call goes with it,
+    /// and a call in the argument of one that stays has no fault if it fits no rule.
     pub fn rust() -> Dialect
         ensures { result ≡ rust }
     {
@@ -43,6 +47,7 @@ impl Dialect {
             items: true,
             cfg: None,
             limits: None,
+            excuses: true,
         }
     }
 

@@ -13,7 +13,7 @@ use Rattle.cfg_options.specs.Conditions.{or_else}
 use Rattle.expander_model.specs.Expansion.{World, Outcome, CallSite, PlacedStep, faulted, placed, just, followed_by, bursting, stays, before_group, whole_call}
 use Rattle.expander_model.specs.Held.{Numbered, unnumbered}
 use Rattle.expander_model.specs.PieceStates.{after_call}
-use Rattle.expander_model.specs.Scoping.{Around, Attempt, Scoped, Expander, at_call, at_key, fitted, found_at, in_brackets, is_alone_in, is_replaced, kept_call, looked_up, only, scoped, unbroken, without_locals}
+use Rattle.expander_model.specs.Scoping.{Around, Attempt, Scoped, Expander, at_call, at_key, fitted, found_at, in_brackets, is_alone_in, is_replaced, kept_call, looked_up, only, scoped, stays_in, unbroken, without_locals}
 use Rattle.expander_model.specs.Limits.{expanded, outermost, Noted, Notes, Passed, definition, limited, looked_in, note_of, noted, noted_world, unnoted, until_passed, within}
 use Rattle.expander_model.specs.declared.limits.Limits.{Limits}
 use Rattle.expander_model.specs.declared.begun.Begun.{Begun}
@@ -245,10 +245,10 @@ module _ (dialect : Dialect) (world : World Numbered) (scope : List ℕ → Opti
     pub notes : Notes Numbered
     pub unlooked : looked_in notes ≡ []
     pub free : (l : Option Limits) → Spends l l notes
-    pub is : a ≡ only (followed_by (looks notes) (bursting much (stays kind around.outer site)))
+    pub is : a ≡ only (followed_by (looks notes) (bursting much (stays_in dialect kind around site)))
 
-  stays_plainly : (kind' kind : FaultKind) → kind' ≡ kind → Stays (only (stays kind' around.outer site)) kind
-  stays_plainly kind' kind is = record { much = false; notes = []; unlooked = refl; free = spends_nothing; is = ap (λ k. only (stays k around.outer site)) is }
+  stays_plainly : (kind' kind : FaultKind) → kind' ≡ kind → Stays (only (stays_in dialect kind' around site)) kind
+  stays_plainly kind' kind is = record { much = false; notes = []; unlooked = refl; free = spends_nothing; is = ap (λ k. only (stays_in dialect k around site)) is }
 
   stays_at : (broken : Bool) (limits : Option Limits) (depth : ℕ) (given : Option Forest) (kind : FaultKind) → world.fit d site.argument ≡ given
       → (if broken then Err BrokenDefinition else answer_at depth given) ≡ Err kind → Stays (of_call broken limits depth) kind
@@ -261,7 +261,7 @@ module _ (dialect : Dialect) (world : World Numbered) (scope : List ℕ → Opti
         notes = note_of bursts None;
         unlooked = no_lookups bursts None;
         free = λ l. spends_none l bursts;
-        is = ap (given_by n) fits ∙ ap (λ k. only (followed_by (looks (note_of bursts None)) (bursting bursts (stays k around.outer site)))) is;
+        is = ap (given_by n) fits ∙ ap (λ k. only (followed_by (looks (note_of bursts None)) (bursting bursts (stays_in dialect k around site)))) is;
       }
   stays_at false (Some limits) (suc n) None kind fits e =
       let is : CannotExpand ≡ kind = cc e in
@@ -272,7 +272,7 @@ module _ (dialect : Dialect) (world : World Numbered) (scope : List ℕ → Opti
         free = spends_nothing;
         is = ap (λ o. as_noted (cut_at (passed_by limits n o) n o).given) fits
             ∙ ap (λ p. as_noted (cut_at p n None).given) (nothing_passed limits n)
-            ∙ ap (λ k. only (followed_by (looks []) (bursting bursts (stays k around.outer site)))) is;
+            ∙ ap (λ k. only (followed_by (looks []) (bursting bursts (stays_in dialect k around site)))) is;
       }
   stays_at false limits (suc n) (Some g) kind fits e = absurd (cc e)
 
@@ -621,13 +621,13 @@ module _ (dialect : Dialect) (world : World Numbered) (scope : List ℕ → Opti
 
     pub stays_left : (c : Call) (k : IsCall p.here c true) (d : Numbered) → resolved scope p.locals p.here c ≡ Some d → (kind : FaultKind) → (says : answer world d levels.depth c.argument ≡ Err kind)
         → (let is = stays_here c k d kind says in all_left dialect world scope levels outer p
-        ≡ then_left (followed_by (looks (xs_of c)) (followed_by (looks is.notes) (bursting is.much (stays kind outer (at_site c k)))))
+        ≡ then_left (followed_by (looks (xs_of c)) (followed_by (looks is.notes) (bursting is.much (stays_in dialect kind around (at_site c k)))))
         (all_left dialect world scope levels outer (behind_call false c [])))
     stays_left c k d finds kind says =
         let is = stays_here c k d kind says in
         known_left c k d finds false
         (takes_none c true k (Some (definition d)) (found_is c k ∙ ap (option_map definition) finds) (stays_unreplaced dialect world scope d around (at_site c k) levels.limits levels.depth kind says))
-        (only (followed_by (looks is.notes) (bursting is.much (stays kind outer (at_site c k))))) is.is
+        (only (followed_by (looks is.notes) (bursting is.much (stays_in dialect kind around (at_site c k))))) is.is
 
     -- or its result comes in its place, if no limit is passed
     pub comes_left : (c : Call) (k : IsCall p.here c true) (d : Numbered) → resolved scope p.locals p.here c ≡ Some d → (g : Forest) → answer world d levels.depth c.argument ≡ Ok g

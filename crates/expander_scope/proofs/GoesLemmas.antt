@@ -16,7 +16,7 @@ use Rattle.expander_model.specs.Definitions.{Definition, definition_of}
 use Rattle.expander_model.specs.Expansion.{World, Outcome, CallSite, PlacedStep, before_group, bursting, faulted, just, followed_by, stays}
 use Rattle.expander_model.specs.Held.{Numbered, unnumbered}
 use Rattle.expander_model.specs.PieceStates.{after_leaf, after_group, after_name, is_dropped}
-use Rattle.expander_model.specs.Scoping.{Around as Surroundings, Scoped, out_piece, definition_piece, kind_of, kind_in, and_next, defined, definition_in, in_brackets, in_group, is_left_out, only}
+use Rattle.expander_model.specs.Scoping.{Around as Surroundings, Scoped, out_piece, definition_piece, kind_of, kind_in, and_next, defined, definition_in, in_brackets, in_group, is_excused, is_left_out, only, stays_in, unless_excused}
 use Rattle.cfg_options.specs.declared.options.CfgOptions.{CfgOptions}
 use Rattle.expander_model.specs.declared.dialect.Dialect.{Dialect}
 use Rattle.expander_model.specs.Pieces.{cut}
@@ -40,7 +40,7 @@ use Rattle.expander_model.specs.declared.scope_rules.Standing.TheVariants.{Argum
 use Rattle.expander_model.specs.declared.tree_walk.Around.{Around}
 use Rattle.expander_model.specs.Limits.{Noted, Notes, looked_in, note_of, noted_world}
 use Rattle.expander_model.specs.declared.limits.Limits.{Limits}
-use Rattle.expander_scope.specs.Expanding.{Adds, Levels, among_notes, answer, deeper_at, levels_in, makes_too_many, noted_local, noted_scope, searched}
+use Rattle.expander_scope.specs.Expanding.{Adds, Levels, among_notes, answer, deeper_at, levels_in, makes_too_many, noted_local, noted_scope, searched, stays_for, told_once}
 use Rattle.expander_scope.specs.Spending.{BurstsFirst, BurstsIn, Searched, Spends, Stops, TakesBack, notes_with, passing}
 use Rattle.expander_scope.specs.ListsLeft.{IsAhead, IsOutAhead, Left, Open, Place, all_left, groups_left, in_list, let_out, list_left, then_left}
 use Rattle.expander_scope.specs.Leaving.{Leaves}
@@ -521,10 +521,25 @@ module _ (dialect : Dialect) (world : World Numbered) (scope : List ℕ → Opti
       abbrev pub site : CallSite
       site = site_of dialect world scope levels p.here c true call_is
 
+      -- what is around the call
+      abbrev here : Surroundings
+      here = here_in dialect world scope levels outer p.standing p.locals
+
       -- a call that stays is what was emitted of it
       kept_whole : (told new : Search S) (kind : FaultKind) → ((passed : Forest) → w.trees.here ≡ joined passed c.rest → Adds Has told.out new.out (faulted kind (unwrap_or outer c.name.span) (just outer (walk passed))))
           → Adds Has told.out new.out (stays kind outer site)
       kept_whole told new kind adds = adds site.whole (at.here ∙ call_is.whole)
+
+      -- the same where the fault may be excused
+      kept_in : (told new : Search S) (kind : FaultKind) (t : Option (FaultKind × Span)) → told_once t ≡ unless_excused (is_excused dialect kind w.standing) kind (unwrap_or outer c.name.span)
+          → ((passed : Forest) → w.trees.here ≡ joined passed c.rest → Adds Has told.out new.out (stays_for t outer passed))
+          → Adds Has told.out new.out (stays_in dialect kind here site)
+      kept_in told new kind t is adds =
+          let a = adds site.whole (at.here ∙ call_is.whole) in record {
+            steps = a.steps;
+            faults = a.faults ∙ ap (λ fs. told.out.faults.items ++ fs) (is ∙ ap (λ s. unless_excused (is_excused dialect kind s) kind (unwrap_or outer c.name.span)) at.standing);
+            finds = a.finds;
+          }
 
       bursts_too : (o : Outcome (Noted Numbered)) (t : Bool) (one two : Search S) → Adds Has one.out two.out o → Adds Has one.out two.out (bursting t o)
       bursts_too o t one two a = record { steps = a.steps; faults = a.faults; finds = a.finds }
@@ -532,17 +547,18 @@ module _ (dialect : Dialect) (world : World Numbered) (scope : List ℕ → Opti
       -- it stays for a fault
       pub goes_stays : (new : Search S) (after : ListWalk) (d : Numbered) → Some d ≡ resolved scope (locals_of old.locals) w.trees.here c
           → (kind : FaultKind) → answer world d levels.depth c.argument ≡ Err kind
-          → ((passed : Forest) → w.trees.here ≡ joined passed c.rest → Adds Has mid.out new.out (faulted kind (unwrap_or outer c.name.span) (just outer (walk passed))))
+          → (t : Option (FaultKind × Span)) → told_once t ≡ unless_excused (is_excused dialect kind w.standing) kind (unwrap_or outer c.name.span)
+          → ((passed : Forest) → w.trees.here ≡ joined passed c.rest → Adds Has mid.out new.out (stays_for t outer passed))
           → new.locals ≡ mid.locals → new.left ≡ mid.left → GoesBehind false c w after → Goes dialect world scope levels outer p.outside edition Has (whole_left p) old new w after
-      goes_stays new after d found kind says adds locals left b =
+      goes_stays new after d found kind says t told adds locals left b =
           let is = stays_here dialect world scope levels outer p plain c call_is d kind says in
-          let o : Outcome (Noted Numbered) = bursting is.much (stays kind outer site) in record {
+          let o : Outcome (Noted Numbered) = bursting is.much (stays_in dialect kind here site) in record {
             next = behind_it false [];
             at = stands_behind false new after [] b (ap locals_of locals);
             outcome = followed_by (looks xs) (followed_by (looks is.notes) o);
             is = stays_left dialect world scope levels outer p plain c call_is d (resolved_is (Some d) found) kind says;
             adds = looked_first new (followed_by (looks is.notes) o)
-                (adds_notes Has mid.out new.out is.notes o is.unlooked (bursts_too (stays kind outer site) is.much mid new (kept_whole mid new kind adds)));
+                (adds_notes Has mid.out new.out is.notes o is.unlooked (bursts_too (stays_in dialect kind here site) is.much mid new (kept_in mid new kind t told adds)));
             spends = spends_more old.left mid.left new.left xs (is.notes ++ []) looked_spends
                 (spends_more mid.left mid.left new.left is.notes [] (is.free mid.left) (spends_same mid.left new.left left));
             read = subst (AreReadIn edition) (sym (locals ∙ same_locals));

@@ -1,6 +1,6 @@
 -- The search of lists for calls, in a tree with piece-relative spans, and what it adds to an
 -- output.
-use Rattle.std.specs.Prelude.{◌≡◌, ℕ, zero, suc, ◌-◌, Bool, false, ◌&&◌, not, List, [], ◌++◌, map, Option, Some, None, option_map, Result, Ok, Err, if◌then◌else◌}
+use Rattle.std.specs.Prelude.{◌≡◌, ℕ, zero, suc, ◌-◌, Bool, false, ◌&&◌, not, List, [], ◌∷◌, ◌++◌, map, Option, Some, None, option_map, Result, Ok, Err, if◌then◌else◌}
 use Rattle.tt_data.specs.Forest.{Forest, size}
 use Rattle.tt_data.specs.Walk.{walk}
 use Rattle.tt.specs.Tops.{Top}
@@ -8,7 +8,7 @@ use Rattle.expander_scope.specs.declared.expand.Expanding.{Expanding}
 use Rattle.expander_model.specs.declared.fault.FaultKind.{FaultKind}
 use Rattle.expander_model.specs.declared.fault.FaultKind.TheVariants.{CannotExpand, BrokenDefinition, RecursionLimit}
 use Rattle.expander_model.specs.Changes.{find_with}
-use Rattle.expander_model.specs.Expansion.{World, Outcome, PlacedStep, faulted, just}
+use Rattle.expander_model.specs.Expansion.{World, Outcome, PlacedStep, just}
 use Rattle.expander_model.specs.Definitions.{Definition}
 use Rattle.expander_model.specs.Scoping.{Around, Attempt, Expander, Scoped, Search, defined, only}
 use Rattle.expander_model.specs.Limits.{Noted, Notes, definition, limited, looked_in, noted, noted_attempt, noted_list, noted_world}
@@ -145,9 +145,16 @@ abbrev pub result_under : Grammar → table.Scope → Dialect → ℕ → Standi
 result_under grammar s dialect depth standing at locals f =
     list_under grammar s dialect (depth - 1) standing (Some at) locals f
 
--- a call that stays for a fault, which is told here: it is as it was written
-abbrev pub stays_for : FaultKind × Span → Option Span → Forest → Outcome (Noted Numbered)
-stays_for told outer whole = faulted told.0 told.1 (just outer (walk whole))
+-- the faults that are told of a call that stays
+abbrev pub told_once : Option (FaultKind × Span) → List (FaultKind × Span)
+told_once None = []
+told_once (Some fault) = fault ∷ []
+
+-- a call that stays, of which this is told: it is as it was written
+abbrev pub stays_for : Option (FaultKind × Span) → Option Span → Forest → Outcome (Noted Numbered)
+stays_for told outer whole =
+    let kept : Outcome (Noted Numbered) = just outer (walk whole) in
+    record kept { faults = told_once told }
 
 -- the trees of a result, or the fault
 abbrev pub trees_of : Result Top FaultKind → Result Forest FaultKind

@@ -18,13 +18,14 @@ ghost use Rattle.expander_model.specs.Definitions.{Definition, definition_of};
 ghost use Rattle.expander_model.specs.Expansion.{Deeper, PlacedStep, World, just, placed};
 ghost use Rattle.expander_model.specs.Expansion.{search_calls};
 ghost use Rattle.expander_model.specs.Held.{Numbered, numbered_world, unnumbered};
-ghost use Rattle.expander_model.specs.Scoping.{is_left_out};
+ghost use Rattle.expander_model.specs.Scoping.{is_excused, is_left_out, unless_excused};
 ghost use Rattle.expander_model.specs.World.{fit_of, made, world};
 ghost use Rattle.textual_scope.specs.Keywords.{HasNoKeyword};
 ghost use Rattle.expander_scope.specs.Editions.{IsRead};
 ghost use Rattle.expander_scope.specs.Expanding.{Adds, Expands, Levels, answer, defined_under};
 ghost use Rattle.expander_scope.specs.Expanding.{limits_at, list_under, makes_too_many};
-ghost use Rattle.expander_scope.specs.Expanding.{result_under, stays_for, trees_of, world_under};
+ghost use Rattle.expander_scope.specs.Expanding.{result_under, stays_for, told_once, trees_of};
+ghost use Rattle.expander_scope.specs.Expanding.{world_under};
 ghost use Rattle.expander_scope.specs.Spending.{BurstsFirst, BurstsIn, Searched, Spends, Stops};
 ghost use Rattle.expander_scope.specs.Spending.{TakesBack, left_behind, notes_with, passing, sized};
 ghost use Rattle.expander_model.specs.declared.scope_rules.Standing.TheVariants.{Argument};
@@ -588,14 +589,32 @@ fn pass_call<'a>(dialect: &Dialect, walk: &mut ListWalk<'a>, call: Call<'a>)
     walk.trees.go_on(call.rest);
 }
 
-// Emits a call that stays for a fault, and passes it.
+// What is told of a call that stays for a fault in such a list: the fault at this place, unless it is
+// excused.
+fn told_of(
+    dialect: &Dialect,
+    standing: Standing,
+    kind: FaultKind,
+    at: Span,
+) -> Option<(FaultKind, Span)>
+    ensures { told_once result
+        ≡ unless_excused (is_excused dialect.now kind standing) kind at }
+{
+    let is_argument = standing == Standing::Argument;
+    if dialect.excuses && is_argument && kind == FaultKind::CannotExpand {
+        return None;
+    }
+    Some((kind, at))
+}
+
+// Emits a call that stays, of which this is told, and passes it.
 fn stay<'a, S: EventSink>(
     alloc: Global,
     outer: Option<Span>,
     search: &mut Search<S>,
     walk: &mut ListWalk<'a>,
     call: Call<'a>,
-    told: (FaultKind, Span),
+    told: Option<(FaultKind, Span)>,
 ) -> Result<(), AllocError>
     requires call { call_at walk.old.trees.here ≡ Some call }
     ensures adds { (passed : Forest) → walk.old.trees.here ≡ joined passed call.entry.rest →
@@ -606,7 +625,9 @@ fn stay<'a, S: EventSink>(
     ensures left { search.new.left ≡ search.old.left }
 {
     walk.begun = begun_behind(false, walk.begun, &call.from_group);
-    push_told(&mut search.out.faults, told.0, told.1)?;
+    if let Some((kind, at)) = told {
+        push_told(&mut search.out.faults, kind, at)?;
+    }
     keep(
         alloc,
         outer,
@@ -755,12 +776,13 @@ fn expand_call<'a, G: FragmentGrammar, S: EventSink>(
             if outer.is_some() {
                 return Ok(false);
             }
-            let told = (FaultKind::TooLarge, at);
+            let told = Some((FaultKind::TooLarge, at));
             stay(env.alloc, outer, search, walk, call, told)?;
             Ok(true)
         }
         Err(kind) => {
-            stay(env.alloc, outer, search, walk, call, (kind, at))?;
+            let told = told_of(env.dialect, walk.standing, kind, at);
+            stay(env.alloc, outer, search, walk, call, told)?;
             Ok(true)
         }
     }

@@ -14,6 +14,7 @@ use Rattle.tt_data.specs.declared.leaf.Punct.{Punct}
 use Rattle.tt_data.specs.declared.span.Span.{Span}
 use Rattle.bridge.specs.Text.{is_visible}
 use Rattle.small_grammar.specs.Text.{same_text}
+use Rattle.expander_model.specs.declared.fault.FaultKind.{FaultKind}
 use Rattle.expander_model.specs.declared.fault.FaultKind.TheVariants.{CannotExpand, BrokenDefinition, RecursionLimit}
 use Rattle.expander_model.specs.Calls.{Path, bare, from_crate, other, Marked, none, token, inside, call, marked, unmarked, key_of}
 use Rattle.expander_model.specs.Changes.{outcome_with, Changes, ScopeChange}
@@ -24,7 +25,7 @@ use Rattle.cfg_options.specs.Strings.{string_text}
 use Rattle.cfg_options.specs.declared.options.CfgOptions.{CfgOptions}
 use Rattle.expander_model.proofs.ConditionPlaceLemmas.{left_out-with}
 use Rattle.expander_model.specs.Pieces.{cut}
-use Rattle.expander_model.specs.Expansion.{World, Outcome, CallSite, just, followed_by, grouped, faulted, found, bursting, before_group}
+use Rattle.expander_model.specs.Expansion.{World, Outcome, CallSite, just, followed_by, grouped, faulted, found, bursting, stays, before_group}
 use Rattle.expander_model.specs.OtherPlaces.{definition_with}
 use Rattle.expander_model.proofs.DefinitionPlaceLemmas.{definition_of-with}
 use Rattle.expander_model.specs.PieceStates.{after_call, after_group, after_leaf, is_dropped}
@@ -36,7 +37,7 @@ use Rattle.expander_model.specs.declared.scope_rules.ScopeRules.TheVariants.{Top
 use Rattle.textual_scope.specs.ScopeChanges.{around_with, scoped_with}
 use Rattle.expander_model.specs.declared.scope_rules.Standing.TheVariants.{Top, Enclosed, Items, Argument}
 use Rattle.expander_model.specs.declared.scope_rules.Standing.{Standing}
-use Rattle.expander_model.specs.Scoping.{call_site, Around, Scoped, Search, Expander, Attempt, attempt, PieceKind, out_piece, definition_piece, plain_piece, definition_in, is_found, is_out, kind_of, kind_in, is_left_out, in_group, behind, only, and_next, in_brackets, defined, fitted, at_level, unbroken, looked_up, at_key, at_call, kept_call, search_leaf, found_at, is_replaced, is_alone_in, takes_end, search_trees, search_piece, search_pieces, search_list, scoped}
+use Rattle.expander_model.specs.Scoping.{call_site, Around, Scoped, Search, Expander, Attempt, attempt, PieceKind, out_piece, definition_piece, plain_piece, definition_in, is_excused, is_found, is_out, kind_of, kind_in, is_left_out, in_group, behind, only, and_next, in_brackets, defined, fitted, at_level, unbroken, unless_excused, looked_up, at_key, at_call, kept_call, search_leaf, found_at, is_replaced, is_alone_in, takes_end, search_trees, search_piece, search_pieces, search_list, scoped}
 use Rattle.textual_scope.proofs.MarkChangeLemmas.{ident_with, punct_with, path_with, marked_with, marked-with, in_front-with, unmarked-with, cut-with, outer-with, site_with, followed-with, just-with, walk-with, grouped-with, stays-with}
 use Rattle.textual_scope.proofs.ResultLemmas.{scoped_same}
 use Rattle.textual_scope.proofs.StateLemmas.{after_leaf-with, is_dropped-with}
@@ -129,6 +130,13 @@ module _ {D E : Type 0} (f : Span → Span) (h : D → E) where
       ap (λ (s : Span). faulted BrokenDefinition s (just {D = E} (option_map f outer) (if left then [] else walk (map_spans f d.piece)))) (outer-with f outer d.name.span)
       ∙ ap (faulted BrokenDefinition (f (unwrap_or outer d.name.span))) (shown-with left outer d.piece)
 
+  -- a call that stays, with its fault unless it is excused
+  unfit-with : (excused : Bool) (kind : FaultKind) (outer : Option Span) (site : CallSite)
+      → (let kept : Outcome E = stays kind (option_map f outer) (site_with f site) in record kept { faults = unless_excused excused kind (unwrap_or (option_map f outer) (f site.at)) })
+      ≡ outcome_with f h (let kept : Outcome D = stays kind outer site in record kept { faults = unless_excused excused kind (unwrap_or outer site.at) })
+  unfit-with true kind outer site = ap (λ (o : Outcome E). record o { faults = [] }) (stays-with f h kind outer site)
+  unfit-with false kind outer site = stays-with f h kind outer site
+
   -- what searches a list gives the same at other spans
   abbrev pub SameWith : Search D → Search E → Type 0
   SameWith one two = (around : Around) (g : Forest) → two (around_with f around) (map_spans f g) ≡ scoped_with f h (one around g)
@@ -161,7 +169,7 @@ module _ {D E : Type 0} (f : Span → Span) (h : D → E) where
 
     fitted-with : (one : Search D) (two : Search E) → SameWith one two → (around : Around) (site : CallSite) (r : Option Forest)
         → fitted dialect v local' changed two (around_with f around) (site_with f site) (option_map (map_spans f) r) ≡ scoped_with f h (fitted dialect w local scope one around site r)
-    fitted-with one two same around site None = ap (λ (o : Outcome E). only o) (stays-with f h CannotExpand around.outer site)
+    fitted-with one two same around site None = ap (λ (o : Outcome E). only o) (unfit-with (is_excused dialect CannotExpand around.standing) CannotExpand around.outer site)
     fitted-with one two same around site (Some g) =
         ap (λ (s : Span). two (record { standing = around.standing; outer = Some s; locals = map (definition_with f) around.locals }) (map_spans f g)) (outer-with f around.outer site.at)
         ∙ same (record around { outer = Some (unwrap_or around.outer site.at) }) g

@@ -13,15 +13,16 @@ use Rattle.expander_model.specs.Calls.{Path, bare, from_crate, other, Marked, no
 use Rattle.expander_model.specs.Definitions.{Definition}
 use Rattle.expander_model.specs.Expansion as expanding
 use Rattle.expander_model.specs.Pieces.{cut}
-use Rattle.expander_model.specs.Expansion.{World, Outcome, Deeper, CallSite, just, followed_by, grouped, found, bursting, before_group, whole_call, search_calls, expansion}
+use Rattle.expander_model.specs.Expansion.{World, Outcome, Deeper, CallSite, just, followed_by, grouped, found, bursting, stays, before_group, whole_call, search_calls, expansion}
 use Rattle.expander_model.specs.PieceStates.{after_call, after_group, after_leaf}
 use Rattle.expander_model.specs.declared.begun.Begun.{Begun}
 use Rattle.expander_model.specs.declared.begun.Begun.TheVariants.{Nothing}
 use Rattle.expander_model.specs.declared.dialect.Dialect.{Dialect}
 use Rattle.expander_model.specs.declared.scope_rules.ScopeRules.{ScopeRules}
-use Rattle.expander_model.specs.declared.scope_rules.Standing.TheVariants.{Argument}
+use Rattle.expander_model.specs.declared.fault.FaultKind.TheVariants.{CannotExpand}
+use Rattle.expander_model.specs.declared.scope_rules.Standing.TheVariants.{Top, Enclosed, Items, Argument}
 use Rattle.expander_model.specs.declared.scope_rules.Standing.{Standing}
-use Rattle.expander_model.specs.Scoping.{call_site, without_locals, Scoped, Search, Expander, attempt, PieceKind, out_piece, definition_piece, plain_piece, definition_in, is_out, kind_of, kind_in, found_at, in_group, is_alone_in, is_replaced, only, in_brackets, fitted, at_level, unbroken, looked_up, at_key, at_call, search_leaf, takes_end, search_trees, search_piece, search_pieces, search_list, scoped}
+use Rattle.expander_model.specs.Scoping.{call_site, without_locals, Scoped, Search, Expander, attempt, PieceKind, out_piece, definition_piece, plain_piece, definition_in, is_out, kind_of, kind_in, found_at, in_group, is_alone_in, is_excused, is_replaced, only, unless_excused, in_brackets, fitted, at_level, unbroken, looked_up, at_key, at_call, search_leaf, takes_end, search_trees, search_piece, search_pieces, search_list, scoped}
 use Rattle.textual_scope.proofs.ChainLemmas.{each, piece_by_piece}
 use Rattle.textual_scope.proofs.MarkLemmas.{AllInside, IsBelow, inside_marked}
 use Rattle.textual_scope.proofs.ResultLemmas.{same_next}
@@ -39,14 +40,30 @@ pub kind_plain : (dialect : Dialect) (standing : Standing) (p : Forest) → dial
 kind_plain dialect standing p whole e =
     ap (λ c. if is_out c standing p then out_piece else kind_of (definition_in dialect.scope p)) whole ∙ ap kind_of e
 
--- no call takes the `;` behind it along: by the dialect, or since names find nothing
+-- an option of the dialect plays no part: it is not set, or names find nothing
+abbrev pub PlaysNoPart : {D : Type 0} → Bool → (List ℕ → Option D) → Type 0
+PlaysNoPart option scope = (option ≡ false) ⊎ ((key : List ℕ) → scope key ≡ None)
+
+-- no call takes the `;` behind it along
 abbrev pub KeepsEnds : {D : Type 0} → Dialect → (List ℕ → Option D) → Type 0
-KeepsEnds dialect scope = (dialect.items ≡ false) ⊎ ((key : List ℕ) → scope key ≡ None)
+KeepsEnds dialect scope = PlaysNoPart dialect.items scope
+
+-- no call that fits no rule is excused
+abbrev pub TellsAll : {D : Type 0} → Dialect → (List ℕ → Option D) → Type 0
+TellsAll dialect scope = PlaysNoPart dialect.excuses scope
+
+-- where none is by the dialect
+unexcused : (dialect : Dialect) → dialect.excuses ≡ false → (standing : Standing) → is_excused dialect CannotExpand standing ≡ false
+unexcused dialect off Top = refl
+unexcused dialect off Enclosed = refl
+unexcused dialect off Items = refl
+unexcused dialect off Argument = off
 
 -- lists with this property have no definitions, and what is inside them has it too
 pub record HasNone {D : Type 0} (dialect : Dialect) (world : World D) (scope : List ℕ → Option D) (Plain : Forest → Type 0) : Type 0 where
   pub in_parts : (f : Forest) → Plain f → ArePlain dialect.scope Plain (cut f)
   pub keeps : KeepsEnds dialect scope
+  pub tells : TellsAll dialect scope
   pub whole : dialect.cfg ≡ None
   pub inner : (f : Forest) → Plain f → AllInside (λ a. Plain (unmarked a)) (marked f)
   pub results : (key : List ℕ) (d : D) → scope key ≡ Some d → (argument result : Forest) → Plain argument → world.fit d argument ≡ Some result → Plain result
@@ -67,10 +84,12 @@ module _ {D : Type 0} (dialect : Dialect) (world : World D) (local : Definition 
   SameDeeper (Some expand) None = ⊥
 
   module _ (standing : Standing) (outer : Option Span) (site : CallSite) (plain : Plain site.argument) where
-    fits : (search : Search D) (deeper : Option Span → Forest → Outcome D) → Same search deeper → (r : Option Forest) → ((g : Forest) → r ≡ Some g → Plain g)
+    fits : dialect.excuses ≡ false → (search : Search D) (deeper : Option Span → Forest → Outcome D) → Same search deeper → (r : Option Forest) → ((g : Forest) → r ≡ Some g → Plain g)
         → fitted dialect world local scope search (without_locals standing outer) site r ≡ only (expanding.fitted deeper outer site r)
-    fits search deeper same None h = refl
-    fits search deeper same (Some g) h = same standing (Some (unwrap_or outer site.at)) g (h g refl)
+    fits off search deeper same None h =
+        let kept : Outcome D = stays CannotExpand outer site in
+        ap (λ b. only (record kept { faults = unless_excused b CannotExpand (unwrap_or outer site.at) })) (unexcused dialect off standing)
+    fits off search deeper same (Some g) h = same standing (Some (unwrap_or outer site.at)) g (h g refl)
 
     levels : (key : List ℕ) (d : D) → scope key ≡ Some d → (search : Option (Expander D)) (deeper : Deeper D) → SameDeeper search deeper
         → at_level dialect world local scope d search (without_locals standing outer) site ≡ only (expanding.at_level world d deeper outer site)
@@ -200,9 +219,14 @@ module _ {D : Type 0} (dialect : Dialect) (world : World D) (local : Definition 
 
   -- where results are searched as lists without definitions are
   same_attempt : (search : Search D) (deeper : Option Span → Forest → Outcome D) → Same search deeper → SameFrom (attempt dialect world local scope search) deeper
-  same_attempt search deeper same key d e standing outer site plain =
-      ap (λ (a : Scoped D). record a { outcome = bursting (world.bursts d site.argument) a.outcome })
-      (fits standing outer site plain search deeper same (world.fit d site.argument) (λ g fit. has.results key d e site.argument g plain fit))
+  same_attempt search deeper same key d e standing outer site plain = go has.tells
+    where
+      go : TellsAll dialect scope → (attempt dialect world local scope search d (without_locals standing outer) site).given
+          ≡ only (bursting (world.bursts d site.argument) (expanding.fitted deeper outer site (world.fit d site.argument)))
+      go (inl off) =
+          ap (λ (a : Scoped D). record a { outcome = bursting (world.bursts d site.argument) a.outcome })
+          (fits standing outer site plain off search deeper same (world.fit d site.argument) (λ g fit. has.results key d e site.argument g plain fit))
+      go (inr nothing) = absurd (let both : None ≡ Some d = sym (nothing key) ∙ e in cc both)
 
   pub as_expansion : (depth : ℕ) → Same (scoped dialect world local scope depth) (expansion world scope depth)
   as_expansion zero standing outer f plain = lists None None tt (suc (size f)) standing outer f (omega arith) plain

@@ -35,11 +35,15 @@ filled argument (group d inner rest) = group d (filled argument inner) (filled a
 
 -- these rules of scopes, and no other option
 abbrev pub by : ScopeRules → Dialect
-by rules = record { scope = rules; items = false; cfg = None; limits = None }
+by rules = record { scope = rules; items = false; cfg = None; limits = None; excuses = false }
 
 -- Rust's rules, where the `;` behind an item's call goes with it
 abbrev pub with_items : Dialect
-with_items = record { scope = Rust; items = true; cfg = None; limits = None }
+with_items = record { scope = Rust; items = true; cfg = None; limits = None; excuses = false }
+
+-- Rust's rules, where a call in an argument may fit no rule
+abbrev pub excusing : Dialect
+excusing = record { scope = Rust; items = false; cfg = None; limits = None; excuses = true }
 
 abbrev pub toy : Dialect → World Definition
 toy dialect = record {
@@ -67,9 +71,16 @@ abbrev items : String → List (List ℕ)
 items line = prints_by with_items line
 
 -- the faults, each at the index of a word
+abbrev faults_by : Dialect → String → List (FaultKind × ℕ)
+faults_by dialect line =
+    map (λ f. (f.kind, f.range.start)) (flat_map (member_faults (layers dialect)) (members_of dialect 4 line))
+
 abbrev pub faults : ScopeRules → String → List (FaultKind × ℕ)
-faults rules line =
-    map (λ f. (f.kind, f.range.start)) (flat_map (member_faults (layers (by rules))) (members_of (by rules) 4 line))
+faults rules line = faults_by (by rules) line
+
+-- the same, where a call in an argument may fit no rule
+abbrev excused : String → List (FaultKind × ℕ)
+excused line = faults_by excusing line
 
 -- the names that a piece looks up outside of its lists
 abbrev looked_up_in : Member → List (List ℕ)
@@ -182,6 +193,28 @@ why_it_failed = refl
 
 -- ---- faults
 
+-- a call in the argument of one that stays may be told, or excused
+an_argument : faults Rust "macro_rules ! z { % } u ! ( z ! ( ) ) ;" ≡ (CannotExpand, 9) ∷ []
+an_argument = refl
+
+an_excused_argument : excused "macro_rules ! z { % } u ! ( z ! ( ) { z ! ( ) } ) ;" ≡ []
+an_excused_argument = refl
+
+-- it stays as it is, whether it is told or not
+an_excused_call_stays : prints_by excusing "macro_rules ! z { % } macro_rules ! m { 1 } u ! ( z ! ( m ! ( ) ) m ! ( ) ) ;" ≡ words "u ! ( z ! ( m ! ( ) ) 1 ) ;"
+an_excused_call_stays = refl
+
+-- in what a call there gives too, and nowhere else
+an_excused_result : excused "macro_rules ! z { % } macro_rules ! r { z ! ( ) } u ! ( r ! ( ) ) ; r ! ( ) ;" ≡ (CannotExpand, 24) ∷ []
+an_excused_result = refl
+
+groups_are_told : excused "macro_rules ! z { % } fn f ( ) { z ! ( ) }" ≡ (CannotExpand, 11) ∷ []
+groups_are_told = refl
+
+-- no other fault is excused
+a_broken_one_in_an_argument : excused "macro_rules ! b { ? } u ! ( b ! ( ) ) ;" ≡ (BrokenDefinition, 2) ∷ (BrokenDefinition, 9) ∷ []
+a_broken_one_in_an_argument = refl
+
 a_broken_one : prints Rust "fn f ( ) { macro_rules ! b { ? } b ! { } }" ≡ words "fn f ( ) { b ! { } }"
 a_broken_one = refl
 
@@ -286,5 +319,5 @@ invisible_groups_are_lists_too : items "macro_rules ! m { i } <| m ! ( ) ; |> mo
     ≡ words "<| i |> mod <| a |> { i ; } <| mod |> b { i ; }"
 invisible_groups_are_lists_too = refl
 
-by_top_level_rules_too : prints_by (record { scope = TopLevel; items = true; cfg = None; limits = None }) "macro_rules ! m { i } mod a { m ! ( ) ; }" ≡ words "mod a { i }"
+by_top_level_rules_too : prints_by (record { scope = TopLevel; items = true; cfg = None; limits = None; excuses = false }) "macro_rules ! m { i } mod a { m ! ( ) ; }" ≡ words "mod a { i }"
 by_top_level_rules_too = refl

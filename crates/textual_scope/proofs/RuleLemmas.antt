@@ -50,6 +50,7 @@ module _ {D : Type 0} (world : World D) (local : Definition → D) (scope : List
   top_level_none = record {
     in_parts = λ f h. any_pieces (cut f);
     keeps = inl refl;
+    tells = inl refl;
     whole = refl;
     inner = λ f h. any_inside (marked f);
     results = λ key d e argument result h fit. tt;
@@ -66,11 +67,12 @@ module _ {D : Type 0} (world : World D) (local : Definition → D) (scope : List
       (ap (λ (a : Scoped D). a.outcome) (top_level depth Top None f))
 
 -- without keywords no list has any by Rust's rules either
-without_keywords : (dialect : Dialect) → dialect.items ≡ false → dialect.cfg ≡ None → (world : World Definition) (scope : List ℕ → Option Definition)
+without_keywords : (dialect : Dialect) → dialect.items ≡ false → dialect.excuses ≡ false → dialect.cfg ≡ None → (world : World Definition) (scope : List ℕ → Option Definition)
     → ((key : List ℕ) (d : Definition) → scope key ≡ Some d → AddsNoKeyword world d) → HasNone dialect world scope HasNoKeyword
-without_keywords dialect keeps whole world scope adds = record {
+without_keywords dialect keeps tells whole world scope adds = record {
   in_parts = λ f h. plain_by HasNoKeyword dialect.scope (cut f) (plain_pieces f h);
   keeps = inl keeps;
+  tells = inl tells;
   whole = whole;
   inner = none_inside;
   results = λ key d e argument result h fit. adds key d e argument result h fit;
@@ -79,39 +81,41 @@ without_keywords dialect keeps whole world scope adds = record {
 module _ (world : World Definition) (local : Definition → Definition) (scope : List ℕ → Option Definition)
     (adds : (key : List ℕ) (d : Definition) → scope key ≡ Some d → AddsNoKeyword world d) where
   -- by either rules, where each `;` stays
-  pub no_keyword_in : (dialect : Dialect) → dialect.items ≡ false → dialect.cfg ≡ None → (depth : ℕ) (standing : Standing) (outer : Option _) (f : Forest) → HasNoKeyword f
+  pub no_keyword_in : (dialect : Dialect) → dialect.items ≡ false → dialect.excuses ≡ false → dialect.cfg ≡ None → (depth : ℕ) (standing : Standing) (outer : Option _) (f : Forest) → HasNoKeyword f
       → scoped dialect world local scope depth (without_locals standing outer) f ≡ only (expansion world scope depth outer f)
-  no_keyword_in dialect keeps whole depth standing outer f h =
-      as_expansion dialect world local scope HasNoKeyword (without_keywords dialect keeps whole world scope adds) depth standing outer f h
+  no_keyword_in dialect keeps tells whole depth standing outer f h =
+      as_expansion dialect world local scope HasNoKeyword (without_keywords dialect keeps tells whole world scope adds) depth standing outer f h
 
-  pub wordless_expanded : world.dialect.items ≡ false → world.dialect.cfg ≡ None → world.dialect.limits ≡ None → (depth : ℕ) (f : Forest) → HasNoKeyword f
+  pub wordless_expanded : world.dialect.items ≡ false → world.dialect.excuses ≡ false → world.dialect.cfg ≡ None → world.dialect.limits ≡ None → (depth : ℕ) (f : Forest) → HasNoKeyword f
       → expanded world local scope depth f ≡ expansion world scope depth None f
-  wordless_expanded keeps whole free depth f h =
+  wordless_expanded keeps tells whole free depth f h =
       ap (λ l. (outermost world.dialect world local scope l depth (without_locals Top None) f).outcome) free
-      ∙ ap (λ (a : Scoped Definition). a.outcome) (no_keyword_in world.dialect keeps whole depth Top None f h)
+      ∙ ap (λ (a : Scoped Definition). a.outcome) (no_keyword_in world.dialect keeps tells whole depth Top None f h)
 
 -- where names find nothing outside of lists, trees have no definitions if by the rules they have no keyword of one
 module _ {D : Type 0} (world : World D) (local : Definition → D) (limits : Option Limits) (depth : ℕ) (f : Forest) where
   abbrev Unfound : Dialect → Type 0
   Unfound dialect = outermost dialect world local (λ key. None) limits depth (without_locals Top None) f ≡ only (expansion world (λ key. None) depth None f)
 
-  unfound_by : (rules : ScopeRules) (items : Bool) (own : Option Limits) → (rules ≡ Rust → HasNoKeyword f) → Unfound (record { scope = rules; items = items; cfg = None; limits = own })
-  unfound_by TopLevel items own h =
-      let dialect : Dialect = record { scope = TopLevel; items = items; cfg = None; limits = own } in
+  unfound_by : (rules : ScopeRules) (items excuses : Bool) (own : Option Limits) → (rules ≡ Rust → HasNoKeyword f) → Unfound (record { scope = rules; items = items; cfg = None; limits = own; excuses = excuses })
+  unfound_by TopLevel items excuses own h =
+      let dialect : Dialect = record { scope = TopLevel; items = items; cfg = None; limits = own; excuses = excuses } in
       as_outermost dialect world local (λ key. None) Any
       (record {
         in_parts = λ g k. any_pieces (cut g);
         keeps = inr (λ key. refl);
+        tells = inr (λ key. refl);
         whole = refl;
         inner = λ g k. any_inside (marked g);
         results = λ key d e argument result k fit. tt;
       }) (λ key. refl) limits depth Top None f tt
-  unfound_by Rust items own h =
-      let dialect : Dialect = record { scope = Rust; items = items; cfg = None; limits = own } in
+  unfound_by Rust items excuses own h =
+      let dialect : Dialect = record { scope = Rust; items = items; cfg = None; limits = own; excuses = excuses } in
       as_outermost dialect world local (λ key. None) HasNoKeyword
       (record {
         in_parts = plain_pieces;
         keeps = inr (λ key. refl);
+        tells = inr (λ key. refl);
         whole = refl;
         inner = none_inside;
         results = λ key d e argument result k fit. absurd (cc e);
@@ -119,8 +123,8 @@ module _ {D : Type 0} (world : World D) (local : Definition → D) (limits : Opt
 
   pub unfound_outermost : (dialect : Dialect) → dialect.cfg ≡ None → (dialect.scope ≡ Rust → HasNoKeyword f) → Unfound dialect
   unfound_outermost dialect whole h =
-      subst (λ c. Unfound (record { scope = dialect.scope; items = dialect.items; cfg = c; limits = dialect.limits })) (sym whole)
-      (unfound_by dialect.scope dialect.items dialect.limits h)
+      subst (λ c. Unfound (record { scope = dialect.scope; items = dialect.items; cfg = c; limits = dialect.limits; excuses = dialect.excuses })) (sym whole)
+      (unfound_by dialect.scope dialect.items dialect.excuses dialect.limits h)
 
 -- what the nearest definition of a name has, if all definitions have it
 nearest_has : (P : Definition → Type 0) (before : List Definition) → All P before → (key : List ℕ) (d : Definition) → nearest before key ≡ Some d → P d
@@ -157,19 +161,19 @@ module _ (layers : Layers) (depth : ℕ) where
   abbrev Nests : Forest → Type 0
   Nests p = NestsNone layers.world p (definition_of p)
 
-  same_members : layers.world.dialect.items ≡ false → layers.world.dialect.cfg ≡ None → layers.world.dialect.limits ≡ None → (before : List Definition) (ps : List Forest) → All (AddsNoKeyword layers.world) before → All Nests ps
+  same_members : layers.world.dialect.items ≡ false → layers.world.dialect.excuses ≡ false → layers.world.dialect.cfg ≡ None → layers.world.dialect.limits ≡ None → (before : List Definition) (ps : List Forest) → All (AddsNoKeyword layers.world) before → All Nests ps
       → members_after layers depth before ps ≡ top_members layers depth before ps
-  same_members keeps whole free before [] adds nests = refl
-  same_members keeps whole free before (p ∷ ps) adds nests =
+  same_members keeps tells whole free before [] adds nests = refl
+  same_members keeps tells whole free before (p ∷ ps) adds nests =
       ap (λ m. m ∷ members_after layers depth (with_definition (definition_of p) before) ps) (here (definition_of p) (All-head Nests p ps nests))
       ∙ ap (λ ms. top_member layers depth before p (definition_of p) ∷ ms)
-      (same_members keeps whole free (with_definition (definition_of p) before) ps (more (definition_of p) (All-head Nests p ps nests)) (All-tail Nests p ps nests))
+      (same_members keeps tells whole free (with_definition (definition_of p) before) ps (more (definition_of p) (All-head Nests p ps nests)) (All-tail Nests p ps nests))
     where
       here : (d : Option Definition) → NestsNone layers.world p d → member layers depth before p d ≡ top_member layers depth before p d
       here (Some d) h = refl
       here None h =
           ap (λ (s : List ℕ → Option Definition). plain p (expanded layers.world (λ d. d) s depth p)) (same_found whole before)
-          ∙ ap (plain p) (wordless_expanded layers.world (λ d. d) (nearest before) (nearest_has (AddsNoKeyword layers.world) before adds) keeps whole free depth p h)
+          ∙ ap (plain p) (wordless_expanded layers.world (λ d. d) (nearest before) (nearest_has (AddsNoKeyword layers.world) before adds) keeps tells whole free depth p h)
 
       more : (d : Option Definition) → NestsNone layers.world p d → All (AddsNoKeyword layers.world) (with_definition d before)
       more None h = adds
@@ -182,8 +186,8 @@ module _ (layers : Layers) (depth : ℕ) where
       go (Err fault) = refl
       go (Ok f) = ap (λ ms. Ok (meaning_of layers ms)) (top_level_members is initial (pieces f))
 
-  pub same_meaning : layers.world.dialect.items ≡ false → layers.world.dialect.cfg ≡ None → layers.world.dialect.limits ≡ None → (initial : List Definition) (text : List ℕ) (f : Forest) → layers.read text ≡ Ok f
+  pub same_meaning : layers.world.dialect.items ≡ false → layers.world.dialect.excuses ≡ false → layers.world.dialect.cfg ≡ None → layers.world.dialect.limits ≡ None → (initial : List Definition) (text : List ℕ) (f : Forest) → layers.read text ≡ Ok f
       → All (AddsNoKeyword layers.world) initial → All Nests (pieces f)
       → meaning_in layers depth initial text ≡ top_meaning layers depth initial text
-  same_meaning keeps whole free initial text f e adds nests =
-      rw e (ap (λ ms. Ok (meaning_of layers ms)) (same_members keeps whole free initial (pieces f) adds nests))
+  same_meaning keeps tells whole free initial text f e adds nests =
+      rw e (ap (λ ms. Ok (meaning_of layers ms)) (same_members keeps tells whole free initial (pieces f) adds nests))

@@ -38,9 +38,9 @@ pub fn top_level_scope_is_as_before()
         meaning_in layers depth initial text ≡ top_meaning layers depth initial text }
 {}
 
-/// Where each `;` stays and nothing is left out, trees without a definition keyword are expanded by
-/// Rust's rules as if no list had definitions, and define nothing, if the definitions in scope give
-/// none: `lists`. There, without limits, a text means by both rules what it means where no list has
+/// Where each `;` stays, nothing is left out and no fault is excused, trees without a definition
+/// keyword are expanded by Rust's rules as if no list had definitions, and define nothing, if the
+/// definitions in scope give none: `lists`. There, without limits, a text means by both rules what it means where no list has
 /// definitions, if no piece of it but definitions has a keyword, and they and those before it give
 /// none: `texts`.
 pub fn without_keywords_both_rules_agree()
@@ -49,13 +49,13 @@ pub fn without_keywords_both_rules_agree()
         (outer : Option Span) (f : Forest) →
         ((key : List ℕ) (d : Definition) → scope key ≡ Some d → AddsNoKeyword world d) →
         HasNoKeyword f →
-        scoped (record { scope = Rust; items = false; cfg = None; limits = None }) world local scope
-        depth (without_locals standing outer) f
+        scoped (record { scope = Rust; items = false; cfg = None; limits = None; excuses = false })
+        world local scope depth (without_locals standing outer) f
         ≡ only (expansion world scope depth outer f) }
     ensures texts { (layers : Layers) (depth : ℕ) (initial : List Definition) (text : List ℕ)
         (f : Forest) →
-        layers.world.dialect.items ≡ false → layers.world.dialect.cfg ≡ None →
-        layers.world.dialect.limits ≡ None →
+        layers.world.dialect.items ≡ false → layers.world.dialect.excuses ≡ false →
+        layers.world.dialect.cfg ≡ None → layers.world.dialect.limits ≡ None →
         layers.read text ≡ Ok f →
         All (AddsNoKeyword layers.world) initial →
         All (λ p. NestsNone layers.world p (definition_of p)) (pieces f) →

@@ -242,7 +242,8 @@ expand_call-returns-clause-turn g t c = λ so p at plain.
     goes_stays c.args.env.now.dialect.now (world_under (g.G.FragmentGrammar.answer c.args.env.now.grammar.now) c.args.env.now.scope.now c.args.env.now.dialect.now) (scope_in c.args.env.now.scope.now) (levels_at c.args.env.now.dialect.now c.args.env.now.depth c.args.outer) c.args.outer c.args.env.now.scope.now.edition g.S.EventSink.has_taken
     c.args.search.now c.resolve.new.search c.args.walk.now p at plain c.args.call c.requires.call c.resolve.ensures.locals c.resolve.ensures.left c.resolve.ensures.output c.resolve.ensures.faults c.in_ok-known.ensures.finds
     c.stay-in-Err.new.search c.stay-in-Err.new.walk (numbered_of_known c.in-Some.known.value) (rw c.in-Some.is at c.in_ok-known.ensures.found) c.in-Err.kind says
-    (λ passed is. (rw c.unwrap_or-at.ensures at c.in_ok-stay-in-Err.ensures.adds) passed is)
+    c.told_of-told.result (rw c.unwrap_or-at.ensures at c.told_of-told.ensures)
+    (λ passed is. c.in_ok-stay-in-Err.ensures.adds passed is)
     c.stay-in-Err.ensures.locals c.stay-in-Err.ensures.left c.in_ok-stay-in-Err.ensures.behind
 
 pub search_result-returns-then-not-charge-clause-stops : goal.search_result-returns-then-not-charge-clause-stops
