@@ -172,14 +172,21 @@ impl Live {
         let Some(grammar) = grammar_of(options.grammar, edition) else {
             return Err(Code::Grammar);
         };
-        let Some(Dialect { scope, items, .. }) = dialect_of(options.scope) else {
+        let Some(dialect) = dialect_of(options.scope) else {
             return Err(Code::Scope);
         };
+        let Dialect {
+            scope,
+            items,
+            excuses,
+            ..
+        } = dialect;
         let dialect = Dialect {
             scope,
             items,
             cfg,
             limits: limits_of(options),
+            excuses,
         };
         let text = text_in(text)?;
         match Session::with_dialect(alloc, text, grammar, edition, dialect, options.depth) {

@@ -79,6 +79,7 @@ fn scoped(alloc: Global, text: &str, scope: ScopeRules) -> Result<Session<SmallG
             items: false,
             cfg: None,
             limits: None,
+            excuses: false,
         },
     );
     Ok(Session::with_dialect(alloc, text, SmallGrammar, edition, dialect, 128)?)
@@ -141,6 +142,7 @@ fn with_option(alloc: Global, text: &str) -> Result<Session<SmallGrammar>, Fail>
         items: true,
         cfg: Some(options),
         limits: None,
+        excuses: false,
     };
     Ok(Session::with_dialect(
         alloc,

@@ -71,6 +71,7 @@ pub(crate) const OPTIONS: Options<SmallGrammar> = Options {
         items: false,
         cfg: None,
         limits: None,
+        excuses: false,
     },
     depth: 128,
 };

@@ -42,6 +42,7 @@ fn options_of(rt: &HostRuntime, job: &Job<'_>) -> Result<Options<AnyGrammar>, En
             items: dialect.items,
             cfg: Some(set),
             limits: dialect.limits,
+            excuses: dialect.excuses,
         },
         depth: job.options.depth,
     })

@@ -56,7 +56,7 @@ fn show(
     }
 }
 
-// Explains the faults of a text. `name` is its file's.
+// Explains the faults of a text, those too that its dialect excuses. `name` is its file's.
 fn tell(
     rt: &HostRuntime,
     task: Task,
@@ -64,8 +64,10 @@ fn tell(
     name: &str,
     text: &[u8],
 ) -> io::Result<ExitCode> {
+    let mut options = task.options;
+    options.dialect.excuses = false;
     match std::str::from_utf8(text) {
-        Ok(text) => explain(rt, task.options, prelude, name, text, task.place),
+        Ok(text) => explain(rt, options, prelude, name, text, task.place),
         Err(_) => stopped(rt, "input is not UTF-8"),
     }
 }
@@ -214,6 +216,7 @@ fn under(options: Options<AnyGrammar>, cfg: Option<CfgOptions>) -> Options<AnyGr
         scope,
         items,
         limits,
+        excuses,
         ..
     } = dialect;
     Options {
@@ -224,6 +227,7 @@ fn under(options: Options<AnyGrammar>, cfg: Option<CfgOptions>) -> Options<AnyGr
             items,
             cfg,
             limits,
+            excuses,
         },
         depth,
     }
