@@ -1,4 +1,2 @@
 -- what public contracts rest on
 pub mod Lines
--- what the functions inside the crate promise each other
-pub mod Spots

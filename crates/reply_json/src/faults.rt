@@ -1,13 +1,14 @@
 //! The faults of an expansion.
 ghost use Rattle.std.specs.Prelude.{◌≡◌, ◌<◌, ◌^◌, IfOk, length, min};
 ghost use Rattle.serde_json.specs.View.{view};
+ghost use Rattle.line_index.specs.Lines.{IsSpot};
 ghost use Rattle.reply_json.specs.Lines.{fault, faults, kind_name, read_kind_name};
-ghost use Rattle.reply_json.specs.Spots.{IsSpot};
 
-use crate::places::{BEGIN, Spot, place_from, spot_at};
+use crate::places::place_from;
 use bridge::ReadFaultKind;
 use expander_model::fault::{Fault, FaultKind};
 use expander_run::lines::fault_words;
+use line_index::{BEGIN, Spot, spot_at};
 use serde_json::{Value, json};
 use std::alloc::{AllocError, Global};
 
@@ -59,7 +60,7 @@ pub(crate) fn faults_of(alloc: Global, text: &str, all: &[Fault]) -> Result<Valu
     let mut list = Vec::new(alloc);
     let mut spot = BEGIN;
     for fault in all {
-        spot = spot_at(text, spot, fault.range.start);
+        spot = spot_at(text, spot, fault.range.start as usize);
         list.push(fault_from(alloc, text, spot, fault)?)?;
     }
     Ok(Value::Array(list))

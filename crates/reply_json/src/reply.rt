@@ -5,12 +5,13 @@ ghost use Rattle.serde_json.specs.View.{view};
 ghost use Rattle.reply_json.specs.Lines.{expansion, refused, unread};
 
 use crate::faults::{faults_of, read_kind_name};
-use crate::places::{BEGIN, place_from, spot_at};
+use crate::places::place_from;
 use crate::tokens::{origins_of, ranges_of};
 use bridge::ReadFault;
 use expander_run::lines::{read_fault_words, refusal_words};
 use expander_scope::refusal::Refusal;
 use expander_session::session::Expansion;
+use line_index::{BEGIN, spot_at};
 use serde_json::{Value, json};
 use std::alloc::{AllocError, Global};
 
@@ -49,7 +50,7 @@ pub fn unread_line(alloc: Global, text: &str, it: ReadFault) -> Result<String, A
     requires { length text.now < 2 ^ 32 }
     ensures { IfOk result (λ line. string_bytes line ≡ compact_text (unread text.now it)) }
 {
-    let start = spot_at(text, BEGIN, it.range.start);
+    let start = spot_at(text, BEGIN, it.range.start as usize);
     let at = place_from(alloc, text, start, it.range)?;
     let value = json!(in alloc; {
         "answer": "unread",

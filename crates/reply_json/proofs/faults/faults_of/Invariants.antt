@@ -1,7 +1,7 @@
 use Rattle.std.proofs.Common.{◌≡◌, ◌++◌, drop, map}
 use Rattle.serde_json.specs.View.{view}
 use Rattle.reply_json.specs.Lines.{fault}
-use Rattle.reply_json.specs.Spots.{IsSpot}
+use Rattle.line_index.specs.Lines.{IsSpot}
 use Rattle.reply_json.proofs.faults.faults_of.Given as given
 
 -- the faults so far and those that are left are all
