@@ -20,10 +20,13 @@ no_float_told text (f ∷ fs) = no_float_told text fs
 
 none_of_three : (a b d : Bool) → a ≡ false → b ≡ false → d ≡ false
     → (a || (b || (d || false))) ≡ false
-none_of_three a b d refl refl refl = refl
+none_of_three a b d no_a no_b no_d = rw (no_a, no_b, no_d) refl
 
 pub expansion_has_no_float : (text : List ℕ) (e : Expanded)
     → has_float (expansion text e) ≡ false
 expansion_has_no_float text e =
-    none_of_three _ _ _ (no_float_told text e.faults)
-    (no_float_in (origin_numbers e.texts e.origins)) (no_float_in (ends_of (read_ranges e.printed)))
+    none_of_three (items_have_float (items_of (map (fault text) e.faults)))
+    (items_have_float (items_of (map count (origin_numbers e.texts e.origins))))
+    (items_have_float (items_of (map count (ends_of (read_ranges e.printed)))))
+    (no_float_told text e.faults) (no_float_in (origin_numbers e.texts e.origins))
+    (no_float_in (ends_of (read_ranges e.printed)))

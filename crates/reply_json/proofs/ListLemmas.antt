@@ -2,6 +2,7 @@
 use Rattle.std.proofs.Common.{◌≡◌, ℕ, ◌+◌, ◌<◌, List, [], ◌∷◌, ◌++◌, length, drop, get_or, refl, sym, ap, ◌∙◌, append_assoc, Option, Some}
 use Rattle.std.specs.Prelude.{slice_get}
 use Rattle.std.proofs.lemmas.List.{drop_more}
+use Rattle.reply_json.specs.Lines.{origin_numbers}
 use Rattle.std.proofs.lemmas.Option.{get_or_from_slice_get, slice_get_within}
 
 -- one more, and then the rest
@@ -26,3 +27,8 @@ pub left_at : {X : Type 0} → (xs : List X) (i : ℕ) (x : X) → slice_get xs 
 left_at xs i x is =
     drop_more xs i x (slice_get_within xs i x is)
     ∙ ap (λ y. y ∷ drop (i + 1) xs) (get_or_from_slice_get xs i x x is)
+
+-- tokens without a range have no numbers
+pub none_left : (texts : List ℕ) → origin_numbers texts [] ≡ []
+none_left [] = refl
+none_left (t ∷ texts) = refl

@@ -45,31 +45,44 @@ pub fn expansion_line(alloc: Global, text: &str, it: &Expansion) -> Result<Strin
     expansion_value(alloc, text, it)?.to_string(alloc)
 }
 
-/// The line, without a line feed, that tells why a text of at most `u32::MAX` bytes cannot be read.
-pub fn unread_line(alloc: Global, text: &str, it: ReadFault) -> Result<String, AllocError>
+// The value that tells why a text cannot be read.
+fn unread_value(alloc: Global, text: &str, it: ReadFault) -> Result<Value, AllocError>
     requires { length text.now < 2 ^ 32 }
-    ensures { IfOk result (λ line. string_bytes line ≡ compact_text (unread text.now it)) }
+    ensures { IfOk result (λ v. view v ≡ unread text.now it) }
 {
     let start = spot_at(text, BEGIN, it.range.start as usize);
     let at = place_from(alloc, text, start, it.range)?;
-    let value = json!(in alloc; {
+    json!(in alloc; {
         "answer": "unread",
         "at": at,
         "kind": read_kind_name(it.kind),
         "message": read_fault_words(it.kind),
         "v": 1
-    })?;
-    value.to_string(alloc)
+    })
+}
+
+/// The line, without a line feed, that tells why a text of at most `u32::MAX` bytes cannot be read.
+pub fn unread_line(alloc: Global, text: &str, it: ReadFault) -> Result<String, AllocError>
+    requires { length text.now < 2 ^ 32 }
+    ensures { IfOk result (λ line. string_bytes line ≡ compact_text (unread text.now it)) }
+{
+    unread_value(alloc, text, it)?.to_string(alloc)
+}
+
+// The value that tells why a session refused.
+fn refused_value(alloc: Global, refusal: Refusal) -> Result<Value, AllocError>
+    ensures { IfOk result (λ v. view v ≡ refused refusal) }
+{
+    json!(in alloc; {
+        "answer": "refused",
+        "message": refusal_words(refusal),
+        "v": 1
+    })
 }
 
 /// The line, without a line feed, that tells why a session refused.
 pub fn refused_line(alloc: Global, refusal: Refusal) -> Result<String, AllocError>
     ensures { IfOk result (λ line. string_bytes line ≡ compact_text (refused refusal)) }
 {
-    let value = json!(in alloc; {
-        "answer": "refused",
-        "message": refusal_words(refusal),
-        "v": 1
-    })?;
-    value.to_string(alloc)
+    refused_value(alloc, refusal)?.to_string(alloc)
 }
