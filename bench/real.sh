@@ -6,7 +6,8 @@
 # With no FOLDER it downloads packages of Debian into a folder for the while, and rust-src, by apt-get; PACKAGES names
 # others. STD is the folder `library` of an installed rust-src; a downloaded one is used where it is not said. FILGORDD is
 # the program, by default that of bin/filgordd, which is proved and built first. FILES, by default 100000, is how many
-# files are expanded at most: with 0 none is. It needs rustc, rustfmt and python3 3.11.
+# files are expanded at most: with 0 none is. RUSTFMT names the rustfmt, best that of the same version as STD: macros of
+# std may use what a later one refuses, as `vec!` of 1.63 does. It needs rustc, rustfmt and python3 3.11.
 # shellcheck source=bench/common.sh
 . "$(dirname "$(readlink -f "${BASH_SOURCE[0]}")")/common.sh"
 export PYTHONPATH=$top/bench/survey:$top/bench/agreement PYTHONDONTWRITEBYTECODE=1

@@ -78,7 +78,7 @@ def kind_of(call, names, crate, picks, builtin):
 
 
 def accepts(text, edition):
-    words = ['rustfmt', '--edition', edition, '--emit', 'stdout']
+    words = [os.environ.get('RUSTFMT', 'rustfmt'), '--edition', edition, '--emit', 'stdout']
     got = subprocess.run(words, input=text.encode(), capture_output=True)
     said = [line for line in got.stderr.decode(errors='replace').splitlines() if line.startswith('error')]
     return not [line for line in said if not line.startswith('error[internal]')]

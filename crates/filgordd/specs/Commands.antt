@@ -47,6 +47,10 @@ layout_rule = record (new_rule (codes "layout")) {
   action = Some SetTrue;
 }
 
+-- JSON is asked for: an option with no value of its own
+abbrev pub json_rule : Rule
+json_rule = record (new_rule (codes "json")) { long = Some (codes "json"); action = Some SetTrue }
+
 -- the root of a crate: an option with no value where it is not used
 abbrev pub crate_rule : Rule
 crate_rule = record (new_rule (codes "crate")) { long = Some (codes "crate"); value_names = 1 }
@@ -108,11 +112,11 @@ pub record IsTextSubcommand (name : Text) (shape : Shape) : Type 0 where
 abbrev pub in_crate : Shape → Shape
 in_crate s = with_more crate_rule (with_more extern_rule s)
 
--- `expand`, which may lay out what it prints, and takes files of a crate
+-- `expand`, which may lay out what it prints, or print JSON, and takes files of a crate
 pub record IsExpandSubcommand (shape : Shape) : Type 0 where
   pub base : Shape
   pub is_base : IsTextSubcommand (codes "expand") base
-  pub shape_is : shape ≡ in_crate (with_more layout_rule base)
+  pub shape_is : shape ≡ in_crate (with_more json_rule (with_more layout_rule base))
 
 -- `macros`, which takes files of a crate
 pub record IsMacrosSubcommand (shape : Shape) : Type 0 where
@@ -173,12 +177,13 @@ pub record ChosenBy (rows : List Row) (options : Options AnyGrammar) : Type 0 wh
   pub has_tokens : first_of (codes "most-tokens") rows ≡ Some tokens
   pub chosen : Chosen grammar edition scope depth calls tokens options
 
--- what they ask for: a job with these options, laid out or not, and, each as its word names it, a
+-- what they ask for: a job with these options, laid out or not, as JSON or not, and, each as its word names it, a
 -- folder of libraries, other files in order, options of `cfg`, a text, all texts in order,
 -- other crates in order, and the root of a crate
 pub record AsksBy (rows : List Row) (job : Job) : Type 0 where
   pub options : ChosenBy rows job.options
   pub has_layout : IsFlag (one_of (codes "layout") rows) job.layout
+  pub has_json : IsFlag (one_of (codes "json") rows) job.json
   pub has_library : first_of (codes "std") rows ≡ option_map (λ s. s.now) job.library
   pub has_with : unwrap_or (all_of (codes "with") rows) [] ≡ map (λ s. s.now) job.with.items
   pub has_cfg : unwrap_or (all_of (codes "cfg") rows) [] ≡ map (λ s. s.now) job.cfg.items

@@ -6,7 +6,7 @@ ghost use Rattle.clap.specs.declared.builder.value_parser.ValueParser.{ValuePars
 ghost use Rattle.filgordd.specs.Commands.{ChoosesLanguage, IsExpandSubcommand, IsMacrosSubcommand};
 ghost use Rattle.filgordd.specs.Commands.{IsProgram, IsSubcommand, IsTextSubcommand};
 ghost use Rattle.filgordd.specs.Commands.{bare_program, cfg_rule, crate_rule, extern_rule};
-ghost use Rattle.filgordd.specs.Commands.{file_rule, layout_rule, library_rule, option_rule};
+ghost use Rattle.filgordd.specs.Commands.{file_rule, json_rule, layout_rule, library_rule, option_rule};
 ghost use Rattle.filgordd.specs.Commands.{with_rule};
 
 use clap::{Arg, ArgAction, Command, value_parser};
@@ -147,6 +147,18 @@ fn layout<'a>(alloc: Global) -> Arg<'a>
         .help("Lays the expansion out as Rust code")
 }
 
+fn json<'a>(alloc: Global) -> Arg<'a>
+    ensures rule { rule_of result ≡ json_rule }
+    ensures own { result.global ≡ false }
+{
+    Arg::new(alloc, "json")
+        .long("json")
+        .action(ArgAction::SetTrue)
+        .help(
+            "Prints a line of JSON: the expansion with the origins of its tokens, or why there is none",
+        )
+}
+
 fn root<'a>(alloc: Global) -> Arg<'a>
     ensures rule { rule_of result ≡ crate_rule }
     ensures own { result.global ≡ false }
@@ -235,6 +247,7 @@ fn expand_subcommand<'a>(alloc: Global) -> Result<Command<'a>, AllocError>
     let about = "Prints the expansion of a text, and reports its faults";
     text_subcommand(alloc, "expand", about)?
         .arg(layout(alloc))?
+        .arg(json(alloc))?
         .arg(other_crate(alloc))?
         .arg(root(alloc))
 }

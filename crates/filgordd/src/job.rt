@@ -46,6 +46,8 @@ pub(crate) struct Job<'a> {
     pub(crate) options: Options<AnyGrammar>,
     /// Whether the expansion is laid out.
     pub(crate) layout: bool,
+    /// Whether the reply is told as JSON.
+    pub(crate) json: bool,
     /// The folder of the libraries whose definitions come first.
     pub(crate) library: Option<&'a str>,
     /// The words for the other files, in order.

@@ -12,6 +12,7 @@ mod externs;
 mod files;
 mod imports;
 mod job;
+mod json;
 mod lacking;
 mod layout;
 mod library;

@@ -79,6 +79,7 @@ fn job_of<'a>(
         action,
         options,
         layout: matches.get_flag("layout"),
+        json: matches.get_flag("json"),
         library: matches.get_str("std"),
         with: words_of(alloc, matches, "with")?,
         cfg: words_of(alloc, matches, "cfg")?,

@@ -6,6 +6,7 @@ use crate::crates::perform_crate;
 use crate::explain::explain;
 use crate::files::{misused, opened, read_whole, stopped};
 use crate::job::{Action, Job};
+use crate::json::expand_as_json;
 use crate::layout::expand_in_lines;
 use crate::load::{Ended, Others, others_of};
 use crate::place::{Place, named_place};
@@ -103,6 +104,8 @@ struct Task {
     options: Options<AnyGrammar>,
     // Whether the expansion is laid out.
     layout: bool,
+    // Whether the reply is told as JSON.
+    json: bool,
     // Which faults are explained: those at this place, or all.
     place: Option<Place>,
 }
@@ -143,10 +146,12 @@ fn answer(
         action,
         options,
         layout,
+        json,
         ..
     } = task;
     match action {
         Action::View => show(rt, options, others, name, text),
+        _ if json => expand_as_json(rt, options, others.prelude, text),
         _ if layout => expand_in_lines(rt, options, others.prelude, text),
         _ => Ok(expand(rt, options, others.prelude, text)),
     }
@@ -183,6 +188,7 @@ fn work(
         action,
         options,
         layout,
+        json,
         file,
         ..
     } = job;
@@ -191,6 +197,7 @@ fn work(
         action,
         options: under(options, cfg),
         layout,
+        json,
         place,
     };
     match file {

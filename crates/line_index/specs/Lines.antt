@@ -1,8 +1,9 @@
 -- Positions in a text by line and column, as the Language Server Protocol has them: lines end with
 -- `\n`, `\r\n` or `\r`, and a column counts UTF-16 code units. (LSP 3.17, "Text Documents" and
 -- "Position".) A text is its bytes in UTF-8.
-use Rattle.std.specs.Prelude.{◌≡◌, ℕ, zero, suc, ◌+◌, ◌-◌, Bool, true, false, if◌then◌else◌, ◌||◌, List, [], ◌∷◌, drop, nat_eq, nat_le, nat_lt, slice_index, slice_range, sum_by}
+use Rattle.std.specs.Prelude.{◌≡◌, ◌≤◌, ℕ, zero, suc, ◌+◌, ◌-◌, Bool, true, false, if◌then◌else◌, ◌||◌, List, [], ◌∷◌, drop, length, nat_eq, nat_le, nat_lt, slice_index, slice_range, sum_by}
 use Rattle.line_index.specs.declared.positions.Position.{Position}
+use Rattle.line_index.specs.declared.spots.Spot.{Spot}
 
 -- a line feed or a carriage return, which is in no line
 abbrev pub is_break : ℕ → Bool
@@ -57,6 +58,10 @@ column_of text at = sum_by units (slice_range text (line_start text (line_of tex
 -- a position is that of a byte
 abbrev pub IsPositionOf : List ℕ → ℕ → Position → Type 0
 IsPositionOf text at p = (p.line ≡ line_of text at) × (p.column ≡ column_of text at)
+
+-- a byte of a text, its end among them, with its position
+abbrev pub IsSpot : List ℕ → Spot → Type 0
+IsSpot text spot = (spot.at ≤ length text) × IsPositionOf text spot.at spot.position
 
 -- a byte is within a line end of two bytes
 abbrev pub IsWithinEnd : List ℕ → ℕ → Type 0

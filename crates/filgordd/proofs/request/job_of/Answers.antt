@@ -9,6 +9,9 @@ returns-clause-words c = record {
   has_layout =
       flag_is (found_of c.args.matches.now) (codes "layout") c.get_flag.result c.get_flag.ensures.none
       c.get_flag.ensures.value c.get_flag.ensures.other;
+  has_json =
+      flag_is (found_of c.args.matches.now) (codes "json") c.get_flag-2.result c.get_flag-2.ensures.none
+      c.get_flag-2.ensures.value c.get_flag-2.ensures.other;
   has_library = option_is (λ s. s.now) (found_of c.args.matches.now) (codes "std") c.get_str.result c.get_str.ensures;
   has_with = c.in_ok-words_of.ensures;
   has_cfg = c.in_ok-words_of-2.ensures;
