@@ -186,7 +186,16 @@ take_file() {
     fi
     [ -z "$file_at" ] || misused 'more than one file'
     file_at=$1
-    [ "${words[$1]}" = - ] || check_file "${words[$1]}"
+    split_place "${words[$1]}"
+    [ "$path" = - ] || check_file "$path"
+}
+
+# Sets `path` to the file that a word names, and `place` to the line and column behind it, which `explain` takes.
+split_place() {
+    path=$1 place=
+    [ "${words[0]}" = explain ] || return 0
+    [[ $1 =~ ^(.*)(:[0-9]+:[0-9]+)$ ]] || return 0
+    path=${BASH_REMATCH[1]} place=${BASH_REMATCH[2]}
 }
 
 # Refuses a value that the option does not take.
@@ -271,11 +280,13 @@ lend_files() {
     local LC_ALL=C name
     lent=() text_lent=
     lend_others
-    [ -n "${file_at-}" ] && [ "${words[file_at]}" != - ] || return 0
-    if lend_copy "${words[file_at]}"; then
-        words[file_at]=$name text_lent=yes
+    [ -n "${file_at-}" ] || return 0
+    split_place "${words[file_at]}"
+    [ "$path" != - ] || return 0
+    if lend_copy "$path"; then
+        words[file_at]=$name$place text_lent=yes
     else
-        exec <"${words[file_at]}" && words[file_at]=-
+        exec <"$path" && words[file_at]=-$place
     fi
 }
 
