@@ -150,7 +150,7 @@ check_words() {
                 check_value "${words[i]}" "${words[i + 1]}"
                 i=$((i + 1))
                 ;;
-            --layout) [ "${words[0]}" = expand ] || misused "${words[0]} has no option --layout" ;;
+            --layout | --json) [ "${words[0]}" = expand ] || misused "${words[0]} has no option ${words[i]}" ;;
             -?*) misused "there is no option $(shown "${words[i]}")" ;;
             *) take_file $i ;;
         esac

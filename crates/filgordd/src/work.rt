@@ -251,6 +251,9 @@ fn ended(done: Result<ExitCode, Ended>) -> io::Result<ExitCode> {
 /// Does a job. The status is 2 where a word for `cfg` names no option, or one of its files cannot
 /// be opened.
 pub(crate) fn perform(rt: &HostRuntime, job: Job<'_>) -> io::Result<ExitCode> {
+    if job.json && (job.layout || job.root.is_some()) {
+        return misused(rt, "--json", &"it takes neither --layout nor --crate");
+    }
     if let Some(root) = job.root {
         return ended(perform_crate(rt, &job, root));
     }
