@@ -10,5 +10,6 @@ mod unfit;
 mod words;
 
 pub use plain::push_plain;
+pub use search::{call_around, definition_before};
 pub use source::Source;
 pub use unfit::{Place, Unfit, push_unfit};

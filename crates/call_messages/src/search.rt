@@ -27,6 +27,37 @@ pub(crate) fn trees_at<'a>(trees: &TtIter<'a>, at: u32) -> Option<TtIter<'a>> {
     }
 }
 
+// The call that these trees begin with, if a byte is in its name, or behind it.
+fn call_named_at<'a>(trees: &TtIter<'a>, at: u32) -> Option<Call<'a>> {
+    let call = call_at(trees)?;
+    let name = call.name.span.range;
+    if name.start <= at && at <= name.end {
+        Some(call)
+    } else {
+        None
+    }
+}
+
+/// The call in whose name a byte is, or behind whose name, in whatever list of a text it stands.
+pub fn call_around<'a>(trees: &TtIter<'a>, at: u32) -> Option<Call<'a>> {
+    let mut rest = trees.copied();
+    loop {
+        if let Some(call) = call_named_at(&rest, at) {
+            return Some(call);
+        }
+        if let Some((_leaf, behind)) = rest.lent_leaf() {
+            rest = behind;
+            continue;
+        }
+        let (brackets, inner, behind) = rest.first_group()?;
+        rest = if at <= brackets.close_span.range.start {
+            inner
+        } else {
+            behind
+        };
+    }
+}
+
 /// The call whose name is at this byte.
 pub(crate) fn call_of<'a>(trees: &TtIter<'a>, at: u32) -> Option<Call<'a>> {
     call_at(&trees_at(trees, at)?)
@@ -88,11 +119,7 @@ fn search_list<'a>(
 
 /// The last definition of this name before a byte, in the lists in which the byte is: of the
 /// innermost list that has one. Lists beyond 1,024 inside one another are not looked into.
-pub(crate) fn definition_before<'a>(
-    trees: &TtIter<'a>,
-    at: u32,
-    name: &str,
-) -> Option<Definition<'a>> {
+pub fn definition_before<'a>(trees: &TtIter<'a>, at: u32, name: &str) -> Option<Definition<'a>> {
     let mut list = trees.copied();
     let mut found = None;
     for _ in 0..MOST_LISTS {

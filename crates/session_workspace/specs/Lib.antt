@@ -1,0 +1,8 @@
+-- what public contracts rest on
+pub mod Names
+pub mod Ranges
+pub mod Diagnostics
+pub mod OpenTexts
+pub mod Symbols
+-- what the functions inside the crate promise each other
+pub mod Losses

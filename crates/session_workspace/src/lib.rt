@@ -1,0 +1,16 @@
+//! A workspace of sessions: the texts that a client of a language server has open, each with a
+//! session that is edited as the client edits the text, and what is answered about them.
+#![tactic(auto)]
+
+mod definitions;
+mod diagnostics;
+mod lost;
+mod names;
+mod open_text;
+mod outline;
+mod ranges;
+mod setup;
+mod workspace;
+
+pub use setup::Setup;
+pub use workspace::{SessionWorkspace, Shown};
