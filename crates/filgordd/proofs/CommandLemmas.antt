@@ -8,7 +8,7 @@ use Rattle.clap.specs.Walk.{Row, Text, all_of, first_of, one_of, rows_of}
 use Rattle.clap.specs.declared.builder.value_parser.ValueParser.{ValueParser}
 use Rattle.clap.specs.declared.parser.matches.Found.{Found}
 use Rattle.filgordd.specs.Choices.{action_name}
-use Rattle.filgordd.specs.Commands.{AsksBy, AsksFor, IsFile, IsFlag, IsProgram, file_rule, in_crate, layout_rule, on_text, option_rule, program_shape, with_more}
+use Rattle.filgordd.specs.Commands.{AsksBy, AsksFor, IsFile, IsFlag, IsProgram, file_rule, in_crate, json_rule, layout_rule, on_text, option_rule, program_shape, with_more}
 use Rattle.filgordd.specs.declared.job.Action.{Action}
 use Rattle.filgordd.specs.declared.job.Job.{Job}
 
@@ -79,7 +79,7 @@ pub is_simple_program : (app : App) → IsProgram app → is_simple app ≡ true
 is_simple_program app p =
     let base : Text → ValueParser → ValueParser → ValueParser → ValueParser → ValueParser → ValueParser → Shape = λ name g e s d m n. on_text (subcommand_of_name name g e s d m n) in
     let of_five : Shape → Shape → Shape → Shape → Shape → App = λ a b c d e. record { top = program_shape; subs = a ∷ b ∷ c ∷ d ∷ e ∷ [] } in
-    let with_expand : Shape → Shape = λ s. in_crate (with_more layout_rule s) in
+    let with_expand : Shape → Shape = λ s. in_crate (with_more json_rule (with_more layout_rule s)) in
     let expand : Shape = with_expand
     (base (codes "expand") p.is_expand.is_base.is_base.grammar p.is_expand.is_base.is_base.edition p.is_expand.is_base.is_base.scope
     p.is_expand.is_base.is_base.depth p.is_expand.is_base.is_base.calls p.is_expand.is_base.is_base.tokens) in

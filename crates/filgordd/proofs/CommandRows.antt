@@ -5,7 +5,7 @@ use Rattle.clap.proofs.OnLiterals.{clap_on_literals}
 use Rattle.clap.specs.Simple.{App, Shape, new_shape, subcommand_of}
 use Rattle.clap.specs.Walk.{Text, all_of, first_of, one_of}
 use Rattle.clap.specs.declared.builder.value_parser.ValueParser.{ValueParser}
-use Rattle.filgordd.specs.Commands.{file_rule, in_crate, layout_rule, on_text, option_rule, program_shape, with_more}
+use Rattle.filgordd.specs.Commands.{file_rule, in_crate, json_rule, layout_rule, on_text, option_rule, program_shape, with_more}
 
 module _ (grammar edition scope depth calls tokens : ValueParser) where
   abbrev named : Text → Shape
@@ -21,7 +21,7 @@ module _ (grammar edition scope depth calls tokens : ValueParser) where
   abbrev program : App
   program = record {
     top = program_shape;
-    subs = in_crate (with_more layout_rule (on_text (named (codes "expand")))) ∷ on_text (named (codes "explain"))
+    subs = in_crate (with_more json_rule (with_more layout_rule (on_text (named (codes "expand"))))) ∷ on_text (named (codes "explain"))
         ∷ in_crate (on_text (named (codes "macros"))) ∷ on_text (named (codes "replay"))
         ∷ on_text (named (codes "view")) ∷ [];
   }
