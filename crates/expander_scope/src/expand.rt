@@ -589,8 +589,8 @@ fn pass_call<'a>(dialect: &Dialect, walk: &mut ListWalk<'a>, call: Call<'a>)
     walk.trees.go_on(call.rest);
 }
 
-// What is told of a call that stays for a fault in such a list: the fault at this place, unless it is
-// excused.
+// What is told of a call that stays for a fault in such a list: the fault at this place, unless
+// it is excused.
 fn told_of(
     dialect: &Dialect,
     standing: Standing,

@@ -6,8 +6,8 @@ ghost use Rattle.clap.specs.declared.builder.value_parser.ValueParser.{ValuePars
 ghost use Rattle.filgordd.specs.Commands.{ChoosesLanguage, IsExpandSubcommand, IsMacrosSubcommand};
 ghost use Rattle.filgordd.specs.Commands.{IsProgram, IsSubcommand, IsTextSubcommand};
 ghost use Rattle.filgordd.specs.Commands.{bare_program, cfg_rule, crate_rule, extern_rule};
-ghost use Rattle.filgordd.specs.Commands.{file_rule, json_rule, layout_rule, library_rule, option_rule};
-ghost use Rattle.filgordd.specs.Commands.{with_rule};
+ghost use Rattle.filgordd.specs.Commands.{file_rule, json_rule, layout_rule, library_rule};
+ghost use Rattle.filgordd.specs.Commands.{option_rule, with_rule};
 
 use clap::{Arg, ArgAction, Command, value_parser};
 use std::alloc::{AllocError, Global};
@@ -155,7 +155,8 @@ fn json<'a>(alloc: Global) -> Arg<'a>
         .long("json")
         .action(ArgAction::SetTrue)
         .help(
-            "Prints a line of JSON: the expansion with the origins of its tokens, or why there is none",
+            "Prints a line of JSON: the expansion with the origins of its tokens, or why there is \
+            none",
         )
 }
 

@@ -40,9 +40,9 @@ pub fn top_level_scope_is_as_before()
 
 /// Where each `;` stays, nothing is left out and no fault is excused, trees without a definition
 /// keyword are expanded by Rust's rules as if no list had definitions, and define nothing, if the
-/// definitions in scope give none: `lists`. There, without limits, a text means by both rules what it means where no list has
-/// definitions, if no piece of it but definitions has a keyword, and they and those before it give
-/// none: `texts`.
+/// definitions in scope give none: `lists`. There, without limits, a text means by both rules what
+/// it means where no list has definitions, if no piece of it but definitions has a keyword, and
+/// they and those before it give none: `texts`.
 pub fn without_keywords_both_rules_agree()
     ensures lists { (world : World Definition) (local : Definition → Definition)
         (scope : List ℕ → Option Definition) (depth : ℕ) (standing : Standing)
