@@ -385,6 +385,14 @@ impl TopSubtreeBuilder {
         }
     }
 
+    /// How many tokens are below the top. A group counts as one, beside those inside it, be it open
+    /// or closed.
+    pub fn len(&self) -> usize
+        ensures { result ≡ count_of self.now.tree }
+    {
+        self.tokens.len() - 1
+    }
+
     /// A restore point at the present state, for `restore`.
     pub fn restore_point(&self) -> SubtreeBuilderRestorePoint
         ensures { result ≡ point_of self.now.tree }
