@@ -6,7 +6,7 @@ use Rattle.tt_data.specs.declared.span.Span.{Span}
 use Rattle.cfg_options.specs.Conditions.{Options}
 use Rattle.expander_model.specs.Pieces.{cut}
 use Rattle.expander_run.specs.Lines.{column_at, line, line_at, line_of}
-use Rattle.filgordd.specs.Shown.{shown}
+use Rattle.program_files.specs.Shown.{shown}
 use Rattle.filgordd.specs.Warnings.{body_of, in_list, names_after, warned_at, warned_in, warned_inside, warning_line, warning_lines, warning_words}
 
 -- ---- pieces one after another

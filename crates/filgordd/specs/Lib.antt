@@ -2,8 +2,4 @@
 pub mod Choices
 pub mod Commands
 pub mod Conditions
-pub mod Shown
-pub mod Sources
-pub mod Others
-pub mod Picking
 pub mod Warnings

@@ -20,7 +20,7 @@ use Rattle.cfg_options.specs.Strings.{string_text}
 use Rattle.expander_model.specs.Definitions.{definition_of, has_attribute}
 use Rattle.expander_model.specs.Pieces.{cut}
 use Rattle.expander_run.specs.Lines.{line_of}
-use Rattle.filgordd.specs.Shown.{shown}
+use Rattle.program_files.specs.Shown.{shown}
 
 -- the list in the braces of a piece, unless `!` is right before them; `bang` says that one is right
 -- before the trees

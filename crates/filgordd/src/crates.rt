@@ -1,22 +1,18 @@
 //! Does a job on files of a crate.
 
-use crate::chosen::{Chosen, chosen_files};
 use crate::conditions::cfg_of;
-use crate::disk::{Disk, code_in};
-use crate::files::{misused, opened, refused};
 use crate::job::{Action, Job};
-use crate::lacking::tell_lacks;
 use crate::layout::{Run, laid_out, run_in_memory};
-use crate::listing::listed;
-use crate::load::{Ended, fault_words, refusal};
-use crate::shown::push_shown;
-use crate::whole::{Whole, prelude_of_file, whole_from};
-use crate::work::warn;
+use crate::warnings::warn;
 use any_grammar::AnyGrammar;
 use cfg_options::CfgOptions;
 use crate_walk::Content;
 use expander::{Dialect, Options, Prelude, Watched};
 use expander_run::program::put;
+use program_files::{
+    Chosen, Disk, Ended, Whole, chosen_files, code_in, fault_words, listed, misused, opened,
+    prelude_of_file, push_shown, refusal, refused, tell_lacks, whole_from,
+};
 use std::alloc::{AllocError, Global};
 use std::process::ExitCode;
 use std::{env, io};
@@ -204,7 +200,7 @@ pub(crate) fn perform_crate(
 ) -> Result<ExitCode, Ended> {
     let set = set_of(rt, job)?;
     let disk = Disk { rt, options: &set };
-    let whole = whole_from(rt, job, &disk, root)?;
+    let whole = whole_from(rt, job.others(), &disk, root)?;
     let modules = &whole.walked.modules;
     let folder = folder_of(rt)?;
     tell_lacks(rt, modules, folder.as_str())?;

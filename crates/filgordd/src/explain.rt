@@ -1,7 +1,6 @@
 //! Explains the faults of a text.
 ghost use Rattle.std.specs.Prelude.{◌<◌, ◌^◌, length};
 
-use crate::files::stopped;
 use crate::place::Place;
 use crate::view::reply_of;
 use any_grammar::AnyGrammar;
@@ -9,6 +8,7 @@ use bridge::{Read, ReadFault, ReadFaultKind, read};
 use call_messages::{Place as TextPlace, Source, Unfit, push_plain, push_unfit};
 use expander::{Edition, Fault, FaultKind, Options, Prelude, Reply};
 use expander_run::lines::{fault_words, read_fault_words, refusal_words};
+use program_files::stopped;
 use rustc_lexer::LexedText;
 use source_snippet::line_at;
 use std::alloc::{AllocError, Global};

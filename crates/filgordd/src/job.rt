@@ -6,6 +6,7 @@ ghost use Rattle.filgordd.specs.Choices.{Chosen, IsGrammar, IsLimited, action_na
 
 use any_grammar::AnyGrammar;
 use expander::{Dialect, Edition, Limits, Options, ScopeRules};
+use program_files::OtherWords;
 use replay_script::edition_of;
 
 /// What is done with a text.
@@ -63,6 +64,17 @@ pub(crate) struct Job<'a> {
     pub(crate) externs: Vec<&'a str>,
     /// The root of the crate that they are files of.
     pub(crate) root: Option<&'a str>,
+}
+
+impl Job<'_> {
+    /// The words for what else is read.
+    pub(crate) fn others(&self) -> OtherWords<'_> {
+        OtherWords {
+            library: self.library,
+            with: self.with.as_slice(),
+            externs: self.externs.as_slice(),
+        }
+    }
 }
 
 // The grammar of a name, if it is one's; that of Rust is of this edition.

@@ -1,11 +1,11 @@
 //! Tells the reply to a text as a line of JSON.
 ghost use Rattle.std.specs.Prelude.{◌<◌, ◌^◌, length};
 
-use crate::files::stopped;
 use crate::view::reply_of;
 use any_grammar::AnyGrammar;
 use expander::{Options, Prelude, Reply, Watched};
 use expander_run::program::put;
+use program_files::stopped;
 use reply_json::{expansion_line, refused_line, unread_line};
 use std::alloc::{AllocError, Global};
 use std::io;

@@ -2,11 +2,11 @@
 ghost use Rattle.std.specs.Prelude.{◌≡◌, IfOk, IsUtf8, string_bytes};
 ghost use Rattle.code_layout.specs.Words.{words_of};
 
-use crate::files::stopped;
 use any_grammar::AnyGrammar;
 use code_layout::layout_text;
 use expander::{Options, Prelude, Status, Watched, run_after};
 use expander_run::program::put;
+use program_files::stopped;
 use std::alloc::{AllocError, Global};
 use std::io;
 use std::process::ExitCode;

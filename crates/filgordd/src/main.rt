@@ -2,40 +2,23 @@
 //! expansion as a page, or answers a script of edits and expansions.
 #![tactic(auto)]
 
-mod chosen;
 mod command;
 mod conditions;
 mod crates;
-mod disk;
 mod explain;
-mod externs;
-mod files;
-mod imports;
 mod job;
 mod json;
-mod lacking;
 mod layout;
-mod library;
-mod listing;
-mod load;
-mod other;
-mod picks;
 mod place;
-mod renamed;
 mod request;
-mod shown;
-mod source;
-mod spots;
 mod view;
-mod walked;
 mod warned;
 mod warnings;
-mod whole;
 mod work;
 
-use crate::files::misused;
 use crate::request::{Request, request_of};
 use crate::work::perform;
+use program_files::misused;
 use std::process::ExitCode;
 use std::{env, io};
 

@@ -5,11 +5,11 @@ ghost use Rattle.filgordd.specs.Commands.{AsksBy, AsksFor, ChosenBy, IsAsked, Is
 
 use crate::command::program;
 use crate::job::{Action, Job, action_of, options_of};
-use crate::shown::push_shown;
 use any_grammar::AnyGrammar;
 use clap::error::ErrorKind;
 use clap::{ArgMatches, Error};
 use expander::Options;
+use program_files::one_line;
 use std::alloc::{AllocError, Global};
 
 /// What the words ask for.
@@ -101,21 +101,6 @@ fn job_in<'a>(alloc: Global, matches: &ArgMatches<'a>) -> Result<Option<Job<'a>>
         Some(action) => job_of(alloc, action, inner),
         None => Ok(None),
     }
-}
-
-/// The first paragraph of a text, as one line, with nothing in it that steers a terminal.
-pub(crate) fn one_line(alloc: Global, text: &str) -> Result<String, AllocError> {
-    let mut line = String::new(alloc);
-    for part in text.lines() {
-        if part.is_empty() {
-            break;
-        }
-        if !line.is_empty() {
-            line.push(' ')?;
-        }
-        push_shown(&mut line, part.trim())?;
-    }
-    Ok(line)
 }
 
 // What is answered where the words name no work: help, the version, or why they are wrong.

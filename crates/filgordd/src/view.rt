@@ -5,10 +5,10 @@ ghost use Rattle.expander_run.specs.Runs.{layers_of};
 ghost use Rattle.expander_session.specs.Replies.{IsReplyIn};
 ghost use Rattle.expander_session.specs.State.{definitions_of};
 
-use crate::load::Others;
 use any_grammar::AnyGrammar;
 use expander::{Options, Prelude, Refusal, Reply, Session};
 use expansion_page::page_with_names;
+use program_files::Others;
 use std::alloc::{AllocError, Global};
 use std::io;
 use std::process::ExitCode;

@@ -3,14 +3,16 @@ ghost use Rattle.std.specs.Prelude.{◌≡◌, ◌++◌, ◌<◌, ◌^◌, IfOk,
 ghost use Rattle.std.specs.Prelude.{string_bytes};
 ghost use Rattle.cfg_options.specs.Options.{options_of};
 ghost use Rattle.expander_run.specs.Lines.{line};
-ghost use Rattle.filgordd.specs.Shown.{shown};
+ghost use Rattle.program_files.specs.Shown.{shown};
 ghost use Rattle.filgordd.specs.Warnings.{warned_text, warning_lines, warning_words};
 
-use crate::shown::push_shown;
 use crate::warned::warned_of;
+use any_grammar::AnyGrammar;
 use bridge::Read;
 use cfg_options::CfgOptions;
+use expander::Options;
 use expander_run::lines::{FIRST, Spot, push_line, spot_of};
+use program_files::push_shown;
 use rustc_lexer::LexedText;
 use std::alloc::{AllocError, Global};
 use tt_data::{Span, TtFault};
@@ -83,5 +85,25 @@ pub(crate) fn warnings(
             Ok(warned(alloc, cfg, name, text, spans.as_slice())?)
         }
         Read::Fault(_fault) => Ok(String::new(alloc)),
+    }
+}
+
+// Whether a text may have something to warn of: the letters `cfg`, and without options those of
+// definitions.
+fn may_warn(options: &Options<AnyGrammar>, text: &str) -> bool {
+    let has_definitions = options.dialect.cfg.is_some() || text.contains("macro");
+    has_definitions && text.contains("cfg")
+}
+
+/// Warns of a text for its conditions. `name` is its file's.
+pub(crate) fn warn(rt: &HostRuntime, options: &Options<AnyGrammar>, name: &str, text: &[u8]) {
+    let Ok(text) = std::str::from_utf8(text) else {
+        return;
+    };
+    if text.len() > u32::MAX as usize || !may_warn(options, text) {
+        return;
+    }
+    if let Ok(lines) = warnings(rt.alloc(), &options.dialect.cfg, name, text) {
+        let _ = eprint!(rt; "{lines}");
     }
 }

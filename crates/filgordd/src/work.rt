@@ -4,18 +4,16 @@ ghost use Rattle.std.specs.Prelude.{◌≡◌};
 use crate::conditions::cfg_of;
 use crate::crates::perform_crate;
 use crate::explain::explain;
-use crate::files::{misused, opened, read_whole, stopped};
 use crate::job::{Action, Job};
 use crate::json::expand_as_json;
 use crate::layout::expand_in_lines;
-use crate::load::{Ended, Others, others_of};
 use crate::place::{Place, named_place};
-use crate::source::blank_front;
 use crate::view::view;
-use crate::warnings::warnings;
+use crate::warnings::warn;
 use any_grammar::AnyGrammar;
 use cfg_options::CfgOptions;
 use expander::{Dialect, Options, Prelude, Status, Watched, run_after};
+use program_files::{Ended, Others, blank_front, misused, opened, others_of, read_whole, stopped};
 use replay_script::{Answered, End, answer_script, wrong_words};
 use std::io;
 use std::io::{BufReader, Read};
@@ -108,26 +106,6 @@ struct Task {
     json: bool,
     // Which faults are explained: those at this place, or all.
     place: Option<Place>,
-}
-
-// Whether a text may have something to warn of: the letters `cfg`, and without options those of
-// definitions.
-fn may_warn(options: &Options<AnyGrammar>, text: &str) -> bool {
-    let has_definitions = options.dialect.cfg.is_some() || text.contains("macro");
-    has_definitions && text.contains("cfg")
-}
-
-/// Warns of a text for its conditions. `name` is its file's.
-pub(crate) fn warn(rt: &HostRuntime, options: &Options<AnyGrammar>, name: &str, text: &[u8]) {
-    let Ok(text) = std::str::from_utf8(text) else {
-        return;
-    };
-    if text.len() > u32::MAX as usize || !may_warn(options, text) {
-        return;
-    }
-    if let Ok(lines) = warnings(rt.alloc(), &options.dialect.cfg, name, text) {
-        let _ = eprint!(rt; "{lines}");
-    }
 }
 
 // Does a task on a whole text, in which what is no code is blank. `name` is its file's.
@@ -267,7 +245,7 @@ pub(crate) fn perform(rt: &HostRuntime, job: Job<'_>) -> io::Result<ExitCode> {
         Ok(cfg) => cfg,
         Err(word) => return misused(rt, word, &"no option for cfg"),
     };
-    match others_of(rt, &job) {
+    match others_of(rt, job.others()) {
         Ok(others) => work(rt, job, cfg, others),
         Err(Ended::Status(status)) => Ok(status),
         Err(Ended::Failed(error)) => Err(error),

@@ -1,8 +1,0 @@
-use Rattle.std.proofs.Common.{◌≡◌, ◌++◌, drop}
-use Rattle.std.specs.Prelude.{flat_map}
-use Rattle.filgordd.specs.Picking.{exports_of}
-use Rattle.filgordd.proofs.picks.push_exported.Given as goal
-
-abbrev pub invariant-loop-source : goal.invariant-loop-source
-invariant-loop-source l =
-    l.prelude ++ flat_map exports_of (drop l.source-index l.sources) ≡ l.fn.prelude ++ flat_map exports_of l.sources

@@ -1,0 +1,32 @@
+//! The files that the program `filgordd` reads: texts, definitions of other texts, and the files of
+//! a crate.
+#![tactic(auto)]
+
+mod chosen;
+mod disk;
+mod externs;
+mod files;
+mod imports;
+mod lacking;
+mod library;
+mod listing;
+mod load;
+mod other;
+mod picks;
+mod renamed;
+mod shown;
+mod source;
+mod spots;
+mod walked;
+mod whole;
+
+pub use chosen::{Chosen, chosen_files};
+pub use disk::{Disk, code_in};
+pub use files::{misused, opened, read_whole, refused, stopped};
+pub use lacking::tell_lacks;
+pub use listing::listed;
+pub use load::{Ended, OtherWords, Others, fault_words, others_of, refusal};
+pub use shown::{one_line, push_shown};
+pub use source::blank_front;
+pub use walked::Walked;
+pub use whole::{Whole, prelude_of_file, whole_from};

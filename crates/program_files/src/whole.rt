@@ -1,0 +1,129 @@
+//! All that files of a crate are expanded after.
+
+use crate::disk::Disk;
+use crate::externs::{Extern, externs_of, push_event};
+use crate::imports::Import;
+use crate::lacking::text_of;
+use crate::load::{Ended, OtherWords, Sources, prelude_of, sources_of};
+use crate::renamed::push_renamed;
+use crate::walked::{Walked, crate_from};
+use crate_picks::push_places;
+use crate_walk::{Event, MacroItem, Place};
+use expander::Prelude;
+use std::alloc::Global;
+use tt_data::TtFault;
+
+/// A crate, and what is given of others.
+#[derive(Drop)]
+pub struct Whole {
+    /// The library, and single files.
+    pub(crate) sources: Sources,
+    /// Other crates.
+    pub(crate) externs: Vec<Extern>,
+    /// The crate.
+    pub walked: Walked,
+}
+
+/// The crate with this root, and what these words give of others.
+pub fn whole_from(
+    rt: &HostRuntime,
+    words: OtherWords<'_>,
+    disk: &Disk<'_>,
+    root: &str,
+) -> Result<Whole, Ended> {
+    let sources = sources_of(rt, words)?;
+    let last = sources.files.len().min(1_000_000) as u32;
+    let (externs, last) = externs_of(rt, disk, words.externs, last)?;
+    Ok(Whole {
+        sources,
+        externs,
+        walked: crate_from(rt, disk, root, last, None)?,
+    })
+}
+
+impl Whole {
+    // Adds the definition at a place, or what it brings of another crate.
+    fn push_place(
+        &self,
+        alloc: Global,
+        place: Place,
+        prelude: &mut Prelude,
+    ) -> Result<(), TtFault> {
+        let modules = &self.walked.modules;
+        match modules.event(place) {
+            Some(Event::Macro(_)) | None => {
+                let definitions = self.walked.definitions.as_slice();
+                push_places(alloc, modules, definitions, &[place], prelude)
+            }
+            Some(event) => push_event(alloc, self.externs.as_slice(), event, prelude),
+        }
+    }
+
+    // Adds what the file itself brings of other crates by `extern crate`.
+    fn push_crates(
+        &self,
+        alloc: Global,
+        file: usize,
+        prelude: &mut Prelude,
+    ) -> Result<(), TtFault> {
+        let Some(content) = self.walked.modules.content(file) else {
+            return Ok(());
+        };
+        for event in content.events() {
+            if let Event::Crate(_) = event {
+                push_event(alloc, self.externs.as_slice(), event, prelude)?;
+            }
+        }
+        Ok(())
+    }
+
+    // Adds a definition under the name of an import, which is another.
+    fn push_other_name(
+        &self,
+        alloc: Global,
+        import: &Import,
+        item: &MacroItem,
+        prelude: &mut Prelude,
+    ) -> Result<(), TtFault> {
+        let file = import.place.file;
+        let Some(Some(definitions)) = self.walked.definitions.get(file) else {
+            return Ok(());
+        };
+        let text = text_of(&self.walked.modules, file);
+        let name = import.name.as_str();
+        push_renamed(alloc, definitions, text, item.start as usize, name, prelude)
+    }
+
+    // Adds an import, under the name that it has in its file.
+    fn push_import(
+        &self,
+        alloc: Global,
+        import: &Import,
+        prelude: &mut Prelude,
+    ) -> Result<(), TtFault> {
+        match self.walked.modules.event(import.place) {
+            Some(Event::Macro(item)) if item.name != import.name => {
+                self.push_other_name(alloc, import, item, prelude)
+            }
+            _ => self.push_place(alloc, import.place, prelude),
+        }
+    }
+}
+
+/// The definitions that a file of a crate is expanded after, the nearest last: those of the
+/// library and of single files, those of other crates behind their roots, those by the file's
+/// place and its `extern crate`, and those that it imports.
+pub fn prelude_of_file(alloc: Global, whole: &Whole, file: usize) -> Result<Prelude, TtFault> {
+    let mut prelude = prelude_of(alloc, &whole.sources)?;
+    for one in &whole.externs {
+        one.push_rooted(alloc, &mut prelude)?;
+    }
+    for place in whole.walked.seen.places(file) {
+        whole.push_place(alloc, *place, &mut prelude)?;
+    }
+    whole.push_crates(alloc, file, &mut prelude)?;
+    for import in &whole.walked.imports.of_file(alloc, file)? {
+        whole.push_import(alloc, import, &mut prelude)?;
+    }
+    Ok(prelude)
+}
