@@ -211,7 +211,7 @@ fn read_fault(fault: sys::Fault) -> ReadFault {
 /// needs_sync(Session::new("", Edition::Edition2024, 128));
 /// ```
 ///
-/// Expanding may take most of the 2 MiB of stack that a thread of `std` has: `bindings/c/expander.h`
+/// Expanding may take most of the 2 MiB of stack that a thread of `std` has: `bindings/c/filgordd.h`
 /// says how much, and `std::thread::Builder::stack_size` gives more.
 #[derive(Debug)]
 pub struct Session {
@@ -311,14 +311,14 @@ impl Session {
         let (at, len) = (text.as_ptr(), text.len());
         checked(match cfg {
             // SAFETY: the struct holds no session, the bytes are those of a `&str`, and the options are there.
-            None => unsafe { sys::expander_raw_open_with(session.at(), at, len, &options) },
+            None => unsafe { sys::filgordd_raw_open_with(session.at(), at, len, &options) },
             Some(words) => {
                 let words: Vec<sys::Word> = (words.iter())
                     .map(|it| sys::Word { bytes: it.as_ptr(), len: it.len() })
                     .collect();
                 // SAFETY: as above, and there are as many words as are said, each of the bytes of a `&str`.
                 unsafe {
-                    sys::expander_raw_open_cfg(session.at(), at, len, &options, words.as_ptr(), words.len())
+                    sys::filgordd_raw_open_cfg(session.at(), at, len, &options, words.as_ptr(), words.len())
                 }
             }
         })?;
@@ -342,23 +342,23 @@ impl Session {
     pub fn text(&self) -> String {
         let (mut none, mut len) = (0, 0);
         // SAFETY: there is room for 0 bytes, and for the length.
-        unsafe { sys::expander_raw_text(self.at(), &mut none, 0, &mut len) };
+        unsafe { sys::filgordd_raw_text(self.at(), &mut none, 0, &mut len) };
         let mut bytes = vec![0; len];
         // SAFETY: there is room for as many bytes as are said.
-        unsafe { sys::expander_raw_text(self.at(), bytes.as_mut_ptr(), len, &mut len) };
+        unsafe { sys::filgordd_raw_text(self.at(), bytes.as_mut_ptr(), len, &mut len) };
         String::from_utf8(bytes).expect("a session's text is UTF-8")
     }
 
     /// Whether the offset is a character boundary of the text, its end included.
     pub fn is_boundary(&self, at: usize) -> bool {
         // SAFETY: the session is open.
-        unsafe { sys::expander_raw_is_boundary(self.at(), at) == 0 }
+        unsafe { sys::filgordd_raw_is_boundary(self.at(), at) == 0 }
     }
 
     /// Whether `len` bytes can replace these, as far as lengths go.
     pub fn fits(&self, range: Range<usize>, len: usize) -> bool {
         // SAFETY: the session is open.
-        unsafe { sys::expander_raw_fits(self.at(), range.start, range.end, len) == 0 }
+        unsafe { sys::filgordd_raw_fits(self.at(), range.start, range.end, len) == 0 }
     }
 
     /// Replaces these bytes of the text.
@@ -373,13 +373,13 @@ impl Session {
     pub fn edit(&mut self, range: Range<usize>, replacement: &str) -> Result<(), Error> {
         let (at, len) = (replacement.as_ptr(), replacement.len());
         // SAFETY: the bytes are those of a `&str`.
-        checked(unsafe { sys::expander_raw_edit(self.at(), range.start, range.end, at, len) })
+        checked(unsafe { sys::filgordd_raw_edit(self.at(), range.start, range.end, at, len) })
     }
 
     /// Expands the text, or says why it cannot be read.
     pub fn expand(&mut self) -> Result<Reply<'_>, Error> {
         // SAFETY: the session is open.
-        match unsafe { sys::expander_raw_expand(self.at()) } {
+        match unsafe { sys::filgordd_raw_expand(self.at()) } {
             UNREAD => Ok(Reply::Unread(self.reading_fault())),
             code => {
                 checked(code)?;
@@ -391,7 +391,7 @@ impl Session {
     fn reading_fault(&self) -> ReadFault {
         let mut fault = sys::Fault::default();
         // SAFETY: there is room for a fault.
-        unsafe { sys::expander_raw_reading_fault(self.at(), &mut fault) };
+        unsafe { sys::filgordd_raw_reading_fault(self.at(), &mut fault) };
         read_fault(fault)
     }
 
@@ -420,7 +420,7 @@ impl Session {
         let (at, len) = (text.as_ptr(), text.len());
         // SAFETY: the bytes are those of `&str`s, and there is room for what is told.
         match unsafe {
-            sys::expander_raw_source(self.at(), number, root.as_ptr(), root.len(), edition, at, len, &mut told)
+            sys::filgordd_raw_source(self.at(), number, root.as_ptr(), root.len(), edition, at, len, &mut told)
         } {
             UNREAD => Ok(Source::Unread(read_fault(told.fault))),
             code => checked(code).map(|()| Source::Read(told.definitions)),
@@ -433,14 +433,14 @@ impl Session {
     pub fn prelude(&mut self, picks: &[Pick]) -> Result<(), Error> {
         let picks: Vec<sys::Pick> = picks.iter().map(|it| it.raw()).collect();
         // SAFETY: there are as many picks as are said.
-        checked(unsafe { sys::expander_raw_prelude(self.at(), picks.as_ptr(), picks.len()) })
+        checked(unsafe { sys::filgordd_raw_prelude(self.at(), picks.as_ptr(), picks.len()) })
     }
 }
 
 impl Drop for Session {
     fn drop(&mut self) {
         // SAFETY: the session is closed once; it may not have been opened, and then nothing happens.
-        unsafe { sys::expander_raw_close(self.at()) }
+        unsafe { sys::filgordd_raw_close(self.at()) }
     }
 }
 
@@ -456,10 +456,10 @@ impl<'s> Expansion<'s> {
     fn of(session: &'s Session) -> Expansion<'s> {
         let mut counts = sys::Counts::default();
         // SAFETY: there is room for the counts.
-        unsafe { sys::expander_raw_counts(session.at(), &mut counts) };
+        unsafe { sys::filgordd_raw_counts(session.at(), &mut counts) };
         let mut bytes = vec![0; counts.printed];
         // SAFETY: there is room for as many bytes as are said.
-        unsafe { sys::expander_raw_printed(session.at(), bytes.as_mut_ptr(), bytes.len()) };
+        unsafe { sys::filgordd_raw_printed(session.at(), bytes.as_mut_ptr(), bytes.len()) };
         let printed = String::from_utf8(bytes).expect("printed text is UTF-8");
         Expansion { session, counts, printed }
     }
@@ -480,7 +480,7 @@ impl<'s> Expansion<'s> {
         (0..self.counts.faults).map(|index| {
             let mut fault = sys::Fault::default();
             // SAFETY: there is room for a fault.
-            unsafe { sys::expander_raw_fault(self.session.at(), index, &mut fault) };
+            unsafe { sys::filgordd_raw_fault(self.session.at(), index, &mut fault) };
             let kind = match fault.kind {
                 0 => FaultKind::CannotExpand,
                 1 => FaultKind::BrokenDefinition,
@@ -510,9 +510,9 @@ impl<'s> Expansion<'s> {
         let mut origins = ranges.clone();
         let at = self.session.at();
         // SAFETY: there is room for as many ranges as are said.
-        checked(unsafe { sys::expander_raw_token_ranges(at, ranges.as_mut_ptr(), count) })?;
+        checked(unsafe { sys::filgordd_raw_token_ranges(at, ranges.as_mut_ptr(), count) })?;
         // SAFETY: as above.
-        checked(unsafe { sys::expander_raw_origins(at, origins.as_mut_ptr(), count) })?;
+        checked(unsafe { sys::filgordd_raw_origins(at, origins.as_mut_ptr(), count) })?;
         let token = |(of, from)| Token { range: range(of), origin: range(from) };
         Ok(ranges.into_iter().zip(origins).map(token))
     }
@@ -522,7 +522,7 @@ impl<'s> Expansion<'s> {
         let mut numbers = vec![0; self.counts.tokens];
         let at = self.session.at();
         // SAFETY: there is room for as many numbers as are said.
-        unsafe { sys::expander_raw_sources(at, numbers.as_mut_ptr(), numbers.len()) };
+        unsafe { sys::filgordd_raw_sources(at, numbers.as_mut_ptr(), numbers.len()) };
         numbers
     }
 }

@@ -144,25 +144,25 @@ fn codes() {
     // SAFETY: each pointer is to as much as is said.
     unsafe {
         let options = sys::Options { edition: 2024, grammar: 0, scope: 0, depth: 0, calls: 0, tokens: 0 };
-        assert_eq!(sys::expander_raw_open_with(at, "a".as_ptr(), 1, &sys::Options { edition: 2020, ..options }), 8);
-        assert_eq!(sys::expander_raw_open_with(at, "a".as_ptr(), 1, &sys::Options { grammar: 2, ..options }), 9);
-        assert_eq!(sys::expander_raw_open_with(at, "a".as_ptr(), 1, &sys::Options { scope: 2, ..options }), 18);
-        assert_eq!(sys::expander_raw_open_with(at, b"\xff".as_ptr(), 1, &options), 6);
+        assert_eq!(sys::filgordd_raw_open_with(at, "a".as_ptr(), 1, &sys::Options { edition: 2020, ..options }), 8);
+        assert_eq!(sys::filgordd_raw_open_with(at, "a".as_ptr(), 1, &sys::Options { grammar: 2, ..options }), 9);
+        assert_eq!(sys::filgordd_raw_open_with(at, "a".as_ptr(), 1, &sys::Options { scope: 2, ..options }), 18);
+        assert_eq!(sys::filgordd_raw_open_with(at, b"\xff".as_ptr(), 1, &options), 6);
         let words = [sys::Word { bytes: b"\xff".as_ptr(), len: 1 }, sys::Word { bytes: "a=".as_ptr(), len: 2 }];
-        assert_eq!(sys::expander_raw_open_cfg(at, "a".as_ptr(), 1, &options, words.as_ptr(), 2), 6);
-        assert_eq!(sys::expander_raw_open_cfg(at, "a".as_ptr(), 1, &options, &words[1], 1), 19);
+        assert_eq!(sys::filgordd_raw_open_cfg(at, "a".as_ptr(), 1, &options, words.as_ptr(), 2), 6);
+        assert_eq!(sys::filgordd_raw_open_cfg(at, "a".as_ptr(), 1, &options, &words[1], 1), 19);
         assert_eq!(session.text(), "a;");
-        assert_eq!(sys::expander_raw_fits(at, 0, 0, usize::MAX), 7);
-        assert_eq!(sys::expander_raw_edit(at, 0, 0, b"\xff".as_ptr(), 1), 6);
-        assert_eq!(sys::expander_raw_counts(at, &mut counts), 12);
-        assert_eq!(sys::expander_raw_expand(at), 0);
-        assert_eq!(sys::expander_raw_reading_fault(at, &mut fault), 12);
-        assert_eq!(sys::expander_raw_fault(at, 0, &mut fault), 13);
-        assert_eq!(sys::expander_raw_printed(at, &mut none, 1), 14);
-        sys::expander_raw_close(at);
-        sys::expander_raw_close(at);
-        assert_eq!(sys::expander_raw_expand(at), 5);
-        assert_eq!(sys::expander_raw_edit(at, 0, 0, b"".as_ptr(), 0), 5);
+        assert_eq!(sys::filgordd_raw_fits(at, 0, 0, usize::MAX), 7);
+        assert_eq!(sys::filgordd_raw_edit(at, 0, 0, b"\xff".as_ptr(), 1), 6);
+        assert_eq!(sys::filgordd_raw_counts(at, &mut counts), 12);
+        assert_eq!(sys::filgordd_raw_expand(at), 0);
+        assert_eq!(sys::filgordd_raw_reading_fault(at, &mut fault), 12);
+        assert_eq!(sys::filgordd_raw_fault(at, 0, &mut fault), 13);
+        assert_eq!(sys::filgordd_raw_printed(at, &mut none, 1), 14);
+        sys::filgordd_raw_close(at);
+        sys::filgordd_raw_close(at);
+        assert_eq!(sys::filgordd_raw_expand(at), 5);
+        assert_eq!(sys::filgordd_raw_edit(at, 0, 0, b"".as_ptr(), 0), 5);
     }
 }
 
