@@ -447,6 +447,57 @@ static void random_edits(int count, uint32_t scope, bool is_under) {
     SAME(read >= count / 3, 1);
 }
 
+/* What a call that needs no session told, by a room of exactly as many bytes. */
+static void is_told(const char *wanted, const char *told, uint32_t code, size_t len) {
+    SAME(code, FILGORDD_OK);
+    SAME(len, strlen(wanted));
+    if (len == strlen(wanted) && memcmp(told, wanted, len)) printf("%.*s, not %s\n", (int)len, told, wanted), failures++;
+}
+
+/* The version, the words for codes and faults, and positions. */
+static void words_and_positions(void) {
+    char room[64] = "";
+    size_t len = 7;
+    is_told(FILGORDD_VERSION, room, filgordd_version(room, strlen(FILGORDD_VERSION), &len), len);
+    SAME(filgordd_version(room, strlen(FILGORDD_VERSION) - 1, &len), FILGORDD_ROOM);
+    SAME(filgordd_version(NULL, 0, &len), FILGORDD_ROOM);
+    SAME(len, strlen(FILGORDD_VERSION));
+    is_told("done", room, filgordd_code_words(FILGORDD_OK, room, 64, &len), len);
+    is_told("out of memory", room, filgordd_code_words(FILGORDD_MEMORY, room, 64, &len), len);
+    is_told("a pointer is NULL", room, filgordd_code_words(FILGORDD_NULL, room, 64, &len), len);
+    is_told("no rule matches this call", room, filgordd_fault_words(FILGORDD_CANNOT_EXPAND, room, 64, &len), len);
+    is_told("group left open", room, filgordd_reading_fault_words(FILGORDD_GROUP_LEFT_OPEN, room, 64, &len), len);
+    for (uint32_t i = 0; i < 64; i++) {
+        SAME(filgordd_code_words(i, room, 64, &len), i <= FILGORDD_CFG ? FILGORDD_OK : FILGORDD_INDEX);
+        SAME(filgordd_fault_words(i, room, 64, &len), i <= FILGORDD_TOO_LARGE ? FILGORDD_OK : FILGORDD_INDEX);
+        SAME(filgordd_reading_fault_words(i, room, 64, &len), i <= FILGORDD_GROUP_LEFT_OPEN ? FILGORDD_OK : FILGORDD_INDEX);
+    }
+    len = 7;
+    SAME(filgordd_code_words(20, room, 64, &len), FILGORDD_INDEX);
+    SAME(filgordd_code_words(UINT32_MAX, room, 64, &len), FILGORDD_INDEX);
+    SAME(len, 7);
+    SAME(filgordd_code_words(0, NULL, 1, &len), FILGORDD_NULL);
+    SAME(filgordd_fault_words(0, room, 64, NULL), FILGORDD_NULL);
+
+    struct filgordd_session s = FILGORDD_SESSION_INIT;
+    struct filgordd_position at = {8, 9};
+    SAME(filgordd_position(&s, 0, &at), FILGORDD_CLOSED);
+    SAME(open_text(&s, "a;\n\xc3\xa9 b\n"), FILGORDD_OK);
+    SAME(filgordd_position(&s, 9, &at), FILGORDD_RANGE);
+    SAME(filgordd_position(&s, SIZE_MAX, &at), FILGORDD_RANGE);
+    SAME(filgordd_position(&s, 0, NULL), FILGORDD_NULL);
+    SAME(at.line, 8);
+    SAME(at.column, 9);
+    /* From the first byte to the end, a line feed being the last of its line. */
+    const size_t rows[][2] = {{1, 1}, {1, 2}, {1, 3}, {2, 1}, {2, 2}, {2, 3}, {2, 4}, {2, 5}, {3, 1}};
+    for (size_t i = 0; i < 9; i++) {
+        SAME(filgordd_position(&s, i, &at), FILGORDD_OK);
+        SAME(at.line, rows[i][0]);
+        SAME(at.column, rows[i][1]);
+    }
+    filgordd_close(&s);
+}
+
 int main(int argc, char **argv) {
     the_row();
     grammars();
@@ -455,6 +506,7 @@ int main(int argc, char **argv) {
     conditions();
     codes();
     sources();
+    words_and_positions();
     for (int way = 0; way < 4; way++)
         random_edits(argc > 1 ? atoi(argv[1]) : 1000, way % 2 ? FILGORDD_SCOPE_RUST : FILGORDD_SCOPE_TOP, way > 1);
     if (failures) printf("%d failures\n", failures);

@@ -1,10 +1,11 @@
-/* The names that the library had first: each is another word for that of filgordd.h.
+/* The names that this header's library had before version 0.1.0: each is another word for that of filgordd.h.
  * They stay for one version. Write filgordd_ for expander_, and FILGORDD_ for EXPANDER_. */
 #ifndef EXPANDER_H
 #define EXPANDER_H
 
 #include "filgordd.h"
 
+#define EXPANDER_VERSION FILGORDD_VERSION
 #define expander_session filgordd_session
 #define EXPANDER_SESSION_INIT FILGORDD_SESSION_INIT
 #define expander_code filgordd_code
@@ -53,6 +54,7 @@
 #define expander_source_told filgordd_source_told
 #define expander_pick filgordd_pick
 #define EXPANDER_ALL FILGORDD_ALL
+#define expander_position filgordd_position
 #define expander_raw_open filgordd_raw_open
 #define expander_raw_open_with filgordd_raw_open_with
 #define expander_raw_open_cfg filgordd_raw_open_cfg
@@ -71,6 +73,11 @@
 #define expander_raw_source filgordd_raw_source
 #define expander_raw_prelude filgordd_raw_prelude
 #define expander_raw_sources filgordd_raw_sources
+#define expander_raw_position filgordd_raw_position
+#define expander_raw_version filgordd_raw_version
+#define expander_raw_code_words filgordd_raw_code_words
+#define expander_raw_fault_words filgordd_raw_fault_words
+#define expander_raw_reading_fault_words filgordd_raw_reading_fault_words
 #define expander_open filgordd_open
 #define expander_open_with filgordd_open_with
 #define expander_open_cfg filgordd_open_cfg
@@ -87,5 +94,9 @@
 #define expander_source filgordd_source
 #define expander_prelude filgordd_prelude
 #define expander_sources filgordd_sources
+#define expander_version filgordd_version
+#define expander_code_words filgordd_code_words
+#define expander_fault_words filgordd_fault_words
+#define expander_reading_fault_words filgordd_reading_fault_words
 
 #endif

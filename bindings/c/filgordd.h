@@ -1,6 +1,7 @@
-/* The expander for C: sessions over a text that is edited and expanded.
+/* Filgordd for C: sessions over a text that is edited and expanded.
  *
- * Link libfilgordd_c.a (`rt lib` in crates/filgordd_c) and liblibc_c.a of the Rattle kit.
+ * Link the library filgordd of a release (`pkg-config --cflags --libs filgordd`). Of the sources, link libfilgordd_c.a
+ * (`rt lib` in crates/filgordd_c) and liblibc_c.a of the Rattle kit.
  *
  *     struct filgordd_session session = FILGORDD_SESSION_INIT;
  *     if (filgordd_open(&session, text, strlen(text), 2024, 128, FILGORDD_GRAMMAR_RUST)) return 1;
@@ -47,8 +48,8 @@
  * the sources of the session. Its own definitions come after them, so they are nearer.
  *
  * Codes. Each function but filgordd_close returns one. A call that is refused changes nothing: neither
- * the session, nor its answer, nor what the pointers point to, except for the wanted length of
- * filgordd_text. No call ends the program, unwinds, reads or writes a file, or starts a thread.
+ * the session, nor its answer, nor what the pointers point to, except for the wanted length of a
+ * text. No call ends the program, unwinds, reads or writes a file, or starts a thread.
  *
  * Proved. The library is proved, under the caller's part of the bargain, which nothing checks: what is
  * said above of memory, and that nobody writes a session's struct. The proofs are of a session that stays
@@ -64,6 +65,9 @@
 #ifdef __cplusplus
 extern "C" {
 #endif
+
+/* The version of this header. That of the library is what filgordd_version tells. */
+#define FILGORDD_VERSION "0.1.0"
 
 /* A session, or none. `held` is NULL if there is none; only FILGORDD_SESSION_INIT and calls write it. */
 struct filgordd_session {
@@ -172,6 +176,12 @@ struct filgordd_pick {
 };
 #define FILGORDD_ALL UINT32_MAX
 
+/* Where a byte of a text is: its line, and its byte column, both from 1, as `filgordd expand` prints them. Lines end at
+ * line feeds. */
+struct filgordd_position {
+    size_t line, column;
+};
+
 /* The calls as the library exports them. Here no pointer may be NULL, also if there are no elements: it
  * is then any that is aligned. C callers use the functions below, which test that. */
 uint32_t filgordd_raw_open(struct filgordd_session *, const uint8_t *, size_t, uint32_t, uint8_t, uint32_t);
@@ -194,6 +204,11 @@ uint32_t filgordd_raw_source(struct filgordd_session *, uint32_t, const uint8_t 
                              size_t, struct filgordd_source_told *);
 uint32_t filgordd_raw_prelude(struct filgordd_session *, const struct filgordd_pick *, size_t);
 uint32_t filgordd_raw_sources(struct filgordd_session *, uint32_t *, size_t);
+uint32_t filgordd_raw_position(struct filgordd_session *, size_t, struct filgordd_position *);
+uint32_t filgordd_raw_version(uint8_t *, size_t, size_t *);
+uint32_t filgordd_raw_code_words(uint32_t, uint8_t *, size_t, size_t *);
+uint32_t filgordd_raw_fault_words(uint32_t, uint8_t *, size_t, size_t *);
+uint32_t filgordd_raw_reading_fault_words(uint32_t, uint8_t *, size_t, size_t *);
 
 /* In all of them `s` is to a session's struct, which is FILGORDD_SESSION_INIT before its first use. */
 
@@ -348,6 +363,45 @@ static inline uint32_t filgordd_sources(struct filgordd_session *s, uint32_t *ro
     uint32_t none = 0;
     if (!s || (!room && len)) return FILGORDD_NULL;
     return filgordd_raw_sources(s, room ? room : &none, len);
+}
+
+/* Where the offset `at` of the text is, that of its end included, counted from the beginning of the text. A fault and
+ * an origin are of the text that was expanded: ask before it is edited. `into` is to one struct.
+ * OK, CLOSED, RANGE, NULL. */
+static inline uint32_t filgordd_position(struct filgordd_session *s, size_t at, struct filgordd_position *into) {
+    return s && into ? filgordd_raw_position(s, at, into) : (uint32_t)FILGORDD_NULL;
+}
+
+/* The four calls below need no session. They write the length of a text in ASCII, without a NUL, to `*wanted`, and the
+ * text to the beginning of the room, as filgordd_text does. `room` is to `len` bytes: 64 are enough for each.
+ * OK, ROOM, NULL; and INDEX if there is no such number, and then nothing is written. */
+
+/* The version of the library, as "0.1.0". */
+static inline uint32_t filgordd_version(void *room, size_t len, size_t *wanted) {
+    uint8_t none = 0;
+    if (!wanted || (!room && len)) return FILGORDD_NULL;
+    return filgordd_raw_version(room ? (uint8_t *)room : &none, len, wanted);
+}
+
+/* The words for a code, of enum filgordd_code. */
+static inline uint32_t filgordd_code_words(uint32_t code, void *room, size_t len, size_t *wanted) {
+    uint8_t none = 0;
+    if (!wanted || (!room && len)) return FILGORDD_NULL;
+    return filgordd_raw_code_words(code, room ? (uint8_t *)room : &none, len, wanted);
+}
+
+/* The words for a fault, of enum filgordd_fault_kind: those that `filgordd expand` prints. */
+static inline uint32_t filgordd_fault_words(uint32_t kind, void *room, size_t len, size_t *wanted) {
+    uint8_t none = 0;
+    if (!wanted || (!room && len)) return FILGORDD_NULL;
+    return filgordd_raw_fault_words(kind, room ? (uint8_t *)room : &none, len, wanted);
+}
+
+/* The words for a reading fault, of enum filgordd_reading_fault_kind: those that `filgordd expand` prints. */
+static inline uint32_t filgordd_reading_fault_words(uint32_t kind, void *room, size_t len, size_t *wanted) {
+    uint8_t none = 0;
+    if (!wanted || (!room && len)) return FILGORDD_NULL;
+    return filgordd_raw_reading_fault_words(kind, room ? (uint8_t *)room : &none, len, wanted);
 }
 
 #ifdef __cplusplus

@@ -12,6 +12,7 @@ import random
 import signal
 import sys
 import threading
+import warnings
 import weakref
 
 import filgordd
@@ -165,6 +166,29 @@ def sources():
     assert later.expanded == 2 and set(later.sources) == {0} and later != expansion
     session.close()
     assert refusal(session.source, 1, "") == refusal(session.prelude, []) == Code.CLOSED
+
+
+def words_and_positions():
+    assert filgordd.version() == filgordd.__version__
+    told = [it.words for kinds in (Code, FaultKind, ReadFaultKind) for it in kinds]
+    assert all(told) and len(set(told)) == len(told)
+    assert FaultKind.TOO_LARGE.words == "the expansion of this call is too large"
+    assert refusal(filgordd._told_words, "code_words", 20) == Code.INDEX
+    with Session("a;\né b\n") as session:
+        # From the first byte to the end, a line feed being the last of its line.
+        rows = (1, 1), (1, 2), (1, 3), (2, 1), (2, 2), (2, 3), (2, 4), (2, 5), (3, 1)
+        assert tuple(session.position(at) for at in range(9)) == rows
+        assert refusal(session.position, 9) == Code.RANGE
+        assert raises(ValueError, session.position, -1)
+    assert refusal(session.position, 0) == Code.CLOSED
+
+
+def first_name():
+    with warnings.catch_warnings(record=True) as told:
+        warnings.simplefilter("always")
+        import expander
+    assert [it.category for it in told] == [DeprecationWarning]
+    assert all(getattr(expander, name) is getattr(filgordd, name) for name in filgordd.__all__)
 
 
 def items():
@@ -390,7 +414,7 @@ def random_edits(count):
     assert read >= count // 3
 
 
-for check in (the_row, grammars, scopes, limits, conditions, codes, sources, items, numbers, once, shared, meanwhile, within, left):
+for check in (the_row, grammars, scopes, limits, conditions, codes, sources, words_and_positions, first_name, items, numbers, once, shared, meanwhile, within, left):
     check()
 random_edits(int(sys.argv[1]) if len(sys.argv) > 1 else 1000)
 sys.exit(doctest.testmod(filgordd).failed)

@@ -6,8 +6,8 @@
 ('y x\\n', 1)
 
 Ranges are of bytes of UTF-8. A range of the text has to begin and end at character boundaries.
-The shared library is libfilgordd.so beside this file, or what FILGORDD_LIBRARY names:
-docs/BINDINGS.md says how it is made.
+The shared library is libfilgordd.so beside this file, as the wheel of a release has it, or what
+FILGORDD_LIBRARY names. Importing raises ImportError where it is of another version.
 """
 
 from __future__ import annotations
@@ -30,6 +30,7 @@ __all__ = [
     "Fault",
     "FaultKind",
     "Grammar",
+    "Position",
     "Range",
     "ReadFault",
     "ReadFaultKind",
@@ -38,11 +39,37 @@ __all__ = [
     "Token",
     "Tokens",
     "Unread",
+    "version",
 ]
 
 
+__version__ = "0.1.0"
+
+
+def _told_words(name: str, *number: int) -> str:
+    """The words that the library has for a number, or the version."""
+    room, length = ctypes.create_string_buffer(64), ctypes.c_size_t()
+    code = getattr(_library, f"filgordd_raw_{name}")(*number, room, 64, ctypes.byref(length))
+    if code:
+        raise Refused(Code(code))
+    return str(room.raw[: length.value], "ascii")
+
+
+def version() -> str:
+    """The version of the library, which is that of this package.
+
+    >>> version() == __version__
+    True
+    """
+    return _told_words("version")
+
+
 class Code(IntEnum):
-    """Why a call is refused, by the numbers of bindings/c/filgordd.h."""
+    """Why a call is refused, by the numbers of filgordd.h.
+
+    >>> Code.BOUNDARY.words
+    'an offset is within a character'
+    """
 
     UNREAD = 1
     MEMORY = 2
@@ -63,6 +90,11 @@ class Code(IntEnum):
     SCOPE = 18
     CFG = 19
 
+    @property
+    def words(self) -> str:
+        """The words that the library has for it."""
+        return _told_words("code_words", self)
+
 
 class Grammar(IntEnum):
     """What fragments such as `$e:expr` take.
@@ -76,6 +108,12 @@ class Grammar(IntEnum):
 
 
 class FaultKind(IntEnum):
+    """What a fault is.
+
+    >>> FaultKind.CANNOT_EXPAND.words
+    'no rule matches this call'
+    """
+
     CANNOT_EXPAND = 0
     BROKEN_DEFINITION = 1
     RECURSION_LIMIT = 2
@@ -83,16 +121,44 @@ class FaultKind(IntEnum):
     UNSPELLABLE = 4
     TOO_LARGE = 5
 
+    @property
+    def words(self) -> str:
+        """The words that `filgordd expand` prints for it."""
+        return _told_words("fault_words", self)
+
 
 class ReadFaultKind(IntEnum):
+    """Why a text cannot be read as trees.
+
+    >>> ReadFaultKind.GROUP_LEFT_OPEN.words
+    'group left open'
+    """
+
     BAD_TOKEN = 0
     CLOSER_DOES_NOT_FIT = 1
     GROUP_LEFT_OPEN = 2
 
+    @property
+    def words(self) -> str:
+        """The words that `filgordd expand` prints for it."""
+        return _told_words("reading_fault_words", self)
+
 
 class Range(NamedTuple):
+    """Bytes of a text, from `start` up to, but not including, `end`."""
+
     start: int
     end: int
+
+
+class Position(NamedTuple):
+    """The line and the byte column of a byte, both from 1, as `filgordd expand` prints them.
+
+    Lines end at line feeds.
+    """
+
+    line: int
+    column: int
 
 
 class Token(NamedTuple):
@@ -106,11 +172,15 @@ class Token(NamedTuple):
 
 
 class Fault(NamedTuple):
+    """A fault, and the bytes of the text that it is reported at."""
+
     kind: FaultKind
     range: Range
 
 
 class ReadFault(NamedTuple):
+    """The first fault of a text that cannot be read, and its bytes."""
+
     kind: ReadFaultKind
     range: Range
 
@@ -312,8 +382,20 @@ class _Word(ctypes.Structure):
     _fields_ = [("bytes", ctypes.c_char_p), ("length", ctypes.c_size_t)]
 
 
+class _Position(ctypes.Structure):
+    _fields_ = [(name, ctypes.c_size_t) for name in ("line", "column")]
+
+
 class _Counts(ctypes.Structure):
     _fields_ = [(name, ctypes.c_size_t) for name in ("printed", "tokens", "faults", "expanded")]
+
+
+def _exported(library: ctypes.CDLL, name: str) -> Any:
+    """A call of the library."""
+    try:
+        return getattr(library, f"filgordd_raw_{name}")
+    except AttributeError:
+        raise ImportError(f"the library is of another version than {__version__}") from None
 
 
 def _load() -> ctypes.CDLL:
@@ -339,14 +421,23 @@ def _load() -> ctypes.CDLL:
         "source": [u32, text, size, u32, text, size, ctypes.POINTER(_SourceTold)],
         "prelude": [numbers, size],
         "sources": [numbers, size],
+        "position": [size, ctypes.POINTER(_Position)],
     }.items():
-        call = getattr(library, f"filgordd_raw_{name}")
+        call = _exported(library, name)
         call.argtypes = [session, *arguments]
         call.restype = None if name == "close" else u32
+    for name in ("version", "code_words", "fault_words", "reading_fault_words"):
+        call = _exported(library, name)
+        number = [] if name == "version" else [u32]
+        call.argtypes = [*number, text, size, ctypes.POINTER(size)]
+        call.restype = u32
     return library
 
 
 _library = _load()
+
+if version() != __version__:
+    raise ImportError(f"the library is of version {version()}, and this module of {__version__}")
 
 
 # The rules of scopes, by their names.
@@ -553,6 +644,22 @@ class Session:
         """Whether so many bytes can replace those from `start` to `end`, as far as lengths go."""
         start, end = _size("start", start), _size("end", end)
         return self._tells("fits", start, end, _size("length", length))
+
+    def position(self, at: int) -> Position:
+        """Where the offset of the text is, that of its end included.
+
+        It is counted from the beginning of the text. A fault and an origin are of the text that was
+        expanded. Refused as RANGE behind the text.
+
+        >>> with Session("a;\\né b") as session:
+        ...     session.position(6)
+        Position(line=2, column=4)
+        """
+        into = _Position()
+        at = _size("at", at)
+        with self._turn():
+            self._call("position", at, ctypes.byref(into))
+        return Position(into.line, into.column)
 
     def edit(self, start: int, end: int, replacement: str) -> None:
         """Replaces the bytes from `start` to `end`."""

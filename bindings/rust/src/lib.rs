@@ -13,25 +13,47 @@
 //! ```
 //!
 //! Ranges are of bytes. A range of the text has to begin and end at character boundaries.
+//!
+//! The crate links the library of a release of Filgordd, and of the same version: that of the folder
+//! `FILGORDD_DIR`, where it was installed or unpacked, or the one that `pkg-config` knows, or the one in
+//! the crate's own folder `native`.
+
+#![deny(missing_docs)]
 
 mod error;
 mod sys;
+mod words;
 
 pub use error::Error;
 
 use error::checked;
 use std::cell::UnsafeCell;
+use std::fmt;
 use std::num::NonZeroUsize;
 use std::ops::Range;
+use words::Words;
 
 const UNREAD: u32 = 1;
+
+/// The version of the library, which is that of this crate.
+///
+/// ```
+/// assert_eq!(filgordd::version(), env!("CARGO_PKG_VERSION"));
+/// ```
+pub fn version() -> String {
+    Words::version().as_str().into()
+}
 
 /// The edition of all identifiers of a text.
 #[derive(Clone, Copy, Debug, PartialEq, Eq, Hash)]
 pub enum Edition {
+    /// That of 2015.
     Edition2015 = 2015,
+    /// That of 2018.
     Edition2018 = 2018,
+    /// That of 2021.
     Edition2021 = 2021,
+    /// That of 2024.
     Edition2024 = 2024,
 }
 
@@ -60,8 +82,11 @@ pub enum Scope {
 /// the top level, 128 levels of calls, no evaluation of `cfg`, and no limit of what a call makes.
 #[derive(Clone, Copy, Debug, PartialEq, Eq, Hash)]
 pub struct Options<'a> {
+    /// What fragments such as `$e:expr` take.
     pub grammar: Grammar,
+    /// The edition of all identifiers of the text.
     pub edition: Edition,
+    /// Which definitions a name can find.
     pub scope: Scope,
     /// How many levels of calls are expanded.
     pub depth: u8,
@@ -106,26 +131,57 @@ pub enum FaultKind {
     TooLarge,
 }
 
+/// The words that `filgordd expand` prints for it.
+impl fmt::Display for FaultKind {
+    fn fmt(&self, f: &mut fmt::Formatter<'_>) -> fmt::Result {
+        Words::of(sys::filgordd_raw_fault_words, *self as u32).fmt(f)
+    }
+}
+
 /// A fault, and the bytes of the text that it is reported at.
 #[derive(Clone, Debug, PartialEq, Eq, Hash)]
 pub struct Fault {
+    /// What it is.
     pub kind: FaultKind,
+    /// The bytes of the text.
     pub range: Range<usize>,
 }
 
 /// Why a text cannot be read as trees.
 #[derive(Clone, Copy, Debug, PartialEq, Eq, Hash)]
 pub enum ReadFaultKind {
+    /// Bytes that are no token.
     BadToken,
+    /// A closing bracket that does not fit the opening one, or that has none.
     CloserDoesNotFit,
+    /// An opening bracket without its closing one.
     GroupLeftOpen,
+}
+
+/// The words that `filgordd expand` prints for it.
+impl fmt::Display for ReadFaultKind {
+    fn fmt(&self, f: &mut fmt::Formatter<'_>) -> fmt::Result {
+        Words::of(sys::filgordd_raw_reading_fault_words, *self as u32).fmt(f)
+    }
 }
 
 /// The first fault of a text that cannot be read, and its bytes.
 #[derive(Clone, Debug, PartialEq, Eq, Hash)]
 pub struct ReadFault {
+    /// What it is.
     pub kind: ReadFaultKind,
+    /// The bytes of the text.
     pub range: Range<usize>,
+}
+
+/// Where a byte of a text is: its line and its byte column, both from 1, as `filgordd expand` prints
+/// them. Lines end at line feeds.
+#[derive(Clone, Copy, Debug, PartialEq, Eq, Hash)]
+pub struct Position {
+    /// The line.
+    pub line: usize,
+    /// The byte column.
+    pub column: usize,
 }
 
 /// A printed token. A lifetime is two, its quote and its name.
@@ -141,7 +197,9 @@ pub struct Token {
 /// Another crate: the word that its `$crate` is printed as, and the edition of its definitions.
 #[derive(Clone, Copy, Debug, PartialEq, Eq, Hash)]
 pub struct Home<'a> {
+    /// The word, such as `std`.
     pub root: &'a str,
+    /// The edition.
     pub edition: Edition,
 }
 
@@ -359,6 +417,23 @@ impl Session {
     pub fn fits(&self, range: Range<usize>, len: usize) -> bool {
         // SAFETY: the session is open.
         unsafe { sys::filgordd_raw_fits(self.at(), range.start, range.end, len) == 0 }
+    }
+
+    /// Where the offset of the text is, that of its end included: counted from the beginning of the
+    /// text. A fault and an origin are of the text that was expanded.
+    ///
+    /// ```
+    /// # use filgordd::{Edition, Error, Position, Session};
+    /// let session = Session::new("a;\né b", Edition::Edition2024, 128)?;
+    /// assert_eq!(session.position(6), Ok(Position { line: 2, column: 4 }));
+    /// assert_eq!(session.position(8), Err(Error::Range));
+    /// # Ok::<(), Error>(())
+    /// ```
+    pub fn position(&self, at: usize) -> Result<Position, Error> {
+        let mut into = sys::Position::default();
+        // SAFETY: there is room for a position.
+        checked(unsafe { sys::filgordd_raw_position(self.at(), at, &mut into) })?;
+        Ok(Position { line: into.line, column: into.column })
     }
 
     /// Replaces these bytes of the text.

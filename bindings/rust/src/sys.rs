@@ -60,6 +60,16 @@ pub struct Word {
     pub len: usize,
 }
 
+#[repr(C)]
+#[derive(Clone, Copy, Debug, Default)]
+pub struct Position {
+    pub line: usize,
+    pub column: usize,
+}
+
+/// A call that tells the words for a number.
+pub type Words = unsafe extern "C" fn(u32, *mut u8, usize, *mut usize) -> u32;
+
 unsafe extern "C" {
     pub fn filgordd_raw_open_with(
         s: *mut Session,
@@ -105,4 +115,14 @@ unsafe extern "C" {
     ) -> u32;
     pub fn filgordd_raw_prelude(s: *mut Session, picks: *const Pick, len: usize) -> u32;
     pub fn filgordd_raw_sources(s: *mut Session, room: *mut u32, len: usize) -> u32;
+    pub fn filgordd_raw_position(s: *mut Session, at: usize, into: *mut Position) -> u32;
+    pub fn filgordd_raw_version(room: *mut u8, len: usize, wanted: *mut usize) -> u32;
+    pub fn filgordd_raw_code_words(code: u32, room: *mut u8, len: usize, wanted: *mut usize) -> u32;
+    pub fn filgordd_raw_fault_words(kind: u32, room: *mut u8, len: usize, wanted: *mut usize) -> u32;
+    pub fn filgordd_raw_reading_fault_words(
+        kind: u32,
+        room: *mut u8,
+        len: usize,
+        wanted: *mut usize,
+    ) -> u32;
 }

@@ -166,6 +166,21 @@ fn codes() {
     }
 }
 
+#[test]
+fn words_and_positions() {
+    assert_eq!(version(), env!("CARGO_PKG_VERSION"));
+    assert_eq!(Error::Memory.to_string(), "out of memory");
+    assert_eq!(format!("{:>14}", Error::Memory), " out of memory");
+    assert_eq!(FaultKind::TooLarge.to_string(), "the expansion of this call is too large");
+    assert_eq!(ReadFaultKind::GroupLeftOpen.to_string(), "group left open");
+    let session = open("a;\né b\n");
+    let rows = [(1, 1), (1, 2), (1, 3), (2, 1), (2, 2), (2, 3), (2, 4), (2, 5), (3, 1)];
+    for (at, (line, column)) in rows.into_iter().enumerate() {
+        assert_eq!(session.position(at), Ok(Position { line, column }));
+    }
+    assert_eq!(session.position(9), Err(Error::Range));
+}
+
 // Opened here, edited and expanded there, and again here; dropped there.
 #[test]
 fn a_session_moves() {

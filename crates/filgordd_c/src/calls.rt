@@ -7,6 +7,7 @@ ghost use Rattle.filgordd_c.specs.Calls.{BoundaryTold, EditTold, ExpandTold, Fit
 ghost use Rattle.filgordd_c.specs.Calls.{SourceAdded};
 ghost use Rattle.filgordd_c.specs.Conditions.{texts};
 ghost use Rattle.filgordd_c.specs.Tellings.{Looks, Opened, OpenedBy, TextTold, Told};
+ghost use Rattle.filgordd_c.specs.Words.{PositionTold};
 
 use crate::answers::{ByteRange, Counts, SourceTold, ToldFault};
 use crate::code::Code;
@@ -15,6 +16,7 @@ use crate::handle::Handle;
 use crate::last;
 use crate::live::{Given, Live};
 use crate::options::SessionOptions;
+use crate::position::Position;
 use crate::room::copy_text;
 use crate::sources::Pick;
 use cfg_options::CfgOptions;
@@ -97,6 +99,20 @@ pub(crate) fn fits(alloc: Global, handle: &mut Handle, start: usize, end: usize,
         return Code::Closed;
     };
     let code = live.as_ref().fits(start, end, len);
+    handle.put(alloc, live);
+    code
+}
+
+/// The line and byte column of an offset.
+pub(crate) fn position(alloc: Global, handle: &mut Handle, at: usize, into: &mut Position) -> Code
+    ensures { Looks (into.new ≡ into.old) (λ live.
+        PositionTold live.session.text at into.old into.new) handle.old.held
+        handle.new.held result }
+{
+    let Some(live) = handle.take(alloc) else {
+        return Code::Closed;
+    };
+    let code = live.as_ref().position(at, into);
     handle.put(alloc, live);
     code
 }

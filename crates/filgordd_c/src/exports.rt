@@ -1,5 +1,5 @@
 //! What C calls. Each answers a code by its number.
-ghost use Rattle.std.specs.Prelude.{◌≡◌, None, ⊤};
+ghost use Rattle.std.specs.Prelude.{◌≡◌, None, Some, ⊤};
 ghost use Rattle.filgordd_c.specs.Answered.{CountsTold, FaultTold, OfExpansion, OriginsTold};
 ghost use Rattle.filgordd_c.specs.Answered.{PrintedTold, ReadingFaultTold, SourcesTold};
 ghost use Rattle.filgordd_c.specs.Answered.{TokenRangesTold};
@@ -7,14 +7,17 @@ ghost use Rattle.filgordd_c.specs.Calls.{BoundaryTold, EditTold, ExpandTold, Fit
 ghost use Rattle.filgordd_c.specs.Calls.{SourceAdded, top_options};
 ghost use Rattle.filgordd_c.specs.Conditions.{texts};
 ghost use Rattle.filgordd_c.specs.Tellings.{Looks, Opened, OpenedBy, Tells, TextTold, Told};
+ghost use Rattle.filgordd_c.specs.Words.{PositionTold, WordsTold, version, words_of_code};
+ghost use Rattle.filgordd_c.specs.Words.{words_of_kind, words_of_read_kind};
 
 use crate::answers::{ByteRange, Counts, SourceTold, ToldFault};
-use crate::calls;
 use crate::conditions::Word;
 use crate::handle::Handle;
 use crate::live::Given;
 use crate::options::SessionOptions;
+use crate::position::Position;
 use crate::sources::Pick;
+use crate::{calls, words};
 use std::alloc::Global;
 
 /// Opens a session over a copy of the text, in place of what the handle holds, which is freed.
@@ -118,6 +121,21 @@ pub extern "C" fn filgordd_raw_fits(
         handle.new.held) result }
 {
     calls::fits(alloc, handle, start, end, len).number()
+}
+
+/// The line and byte column of an offset, both from 1.
+#[unsafe(no_mangle)]
+pub extern "C" fn filgordd_raw_position(
+    alloc: Global,
+    handle: &mut Handle,
+    at: usize,
+    into: &mut Position,
+) -> u32
+    ensures { Tells (Looks (into.new ≡ into.old) (λ live.
+        PositionTold live.session.text at into.old into.new) handle.old.held
+        handle.new.held) result }
+{
+    calls::position(alloc, handle, at, into).number()
 }
 
 /// Replaces the bytes from `start` to `end`.
@@ -258,4 +276,41 @@ pub extern "C" fn filgordd_raw_sources(alloc: Global, handle: &mut Handle, room:
         handle.new.held) result }
 {
     calls::sources(alloc, handle, room).number()
+}
+
+/// The version of the library, copied to the beginning of the room, and its length.
+#[unsafe(no_mangle)]
+pub extern "C" fn filgordd_raw_version(room: &mut [u8], len: &mut usize) -> u32
+    ensures { Tells (WordsTold (Some version) room.old room.new len.old len.new) result }
+{
+    words::tell_version(room, len).number()
+}
+
+/// The words for the number of a code, copied to the beginning of the room, and their length.
+#[unsafe(no_mangle)]
+pub extern "C" fn filgordd_raw_code_words(number: u32, room: &mut [u8], len: &mut usize) -> u32
+    ensures { Tells (WordsTold (words_of_code number) room.old room.new len.old len.new) result }
+{
+    words::tell_code(number, room, len).number()
+}
+
+/// The words for the number of a kind of fault, and their length.
+#[unsafe(no_mangle)]
+pub extern "C" fn filgordd_raw_fault_words(number: u32, room: &mut [u8], len: &mut usize) -> u32
+    ensures { Tells (WordsTold (words_of_kind number) room.old room.new len.old len.new) result }
+{
+    words::tell_kind(number, room, len).number()
+}
+
+/// The words for the number of a kind of reading fault, and their length.
+#[unsafe(no_mangle)]
+pub extern "C" fn filgordd_raw_reading_fault_words(
+    number: u32,
+    room: &mut [u8],
+    len: &mut usize,
+) -> u32
+    ensures { Tells (WordsTold (words_of_read_kind number) room.old room.new len.old len.new)
+        result }
+{
+    words::tell_read_kind(number, room, len).number()
 }

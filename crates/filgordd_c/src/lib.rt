@@ -13,5 +13,7 @@ mod handle;
 mod last;
 mod live;
 mod options;
+mod position;
 mod room;
 mod sources;
+mod words;

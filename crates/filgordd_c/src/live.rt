@@ -4,16 +4,19 @@ ghost use Rattle.filgordd_c.specs.Calls.{BoundaryTold, CannotOpen, EditTold, Exp
 ghost use Rattle.filgordd_c.specs.Calls.{IsHome, IsNew, IsSource, NoHome, NoSource, NoText};
 ghost use Rattle.filgordd_c.specs.Calls.{PreludeTold, SourceAdded, dialect_of, edition_of};
 ghost use Rattle.filgordd_c.specs.Calls.{grammar_of, limit_of, limits_of};
+ghost use Rattle.filgordd_c.specs.Words.{PositionTold};
 
 use crate::answers::{SourceTold, told_unread};
 use crate::code::{Code, refused};
 use crate::options::SessionOptions;
+use crate::position::Position;
 use crate::sources::{Pick, Sources};
 use any_grammar::AnyGrammar;
 use cfg_options::CfgOptions;
 use expander::{
     Dialect, Edition, Expansion, Home, Limits, ReadFault, Reply, Session, Source, SourceRead,
 };
+use expander_run::lines::{FIRST, spot_of};
 use std::alloc::{AllocError, Global};
 use tt_data::TtFault;
 
@@ -222,6 +225,25 @@ impl Live {
         if !self.session.fits(start, end, len) {
             return Code::Length;
         }
+        Code::Done
+    }
+
+    /// The line and byte column of the offset `at`, counted from the beginning of the text.
+    pub(crate) fn position(&self, at: usize, into: &mut Position) -> Code
+        ensures { PositionTold self.now.session.text at into.old into.new result }
+    {
+        let text = self.session.text().as_bytes();
+        if text.len() > 0xffff_ffff {
+            return Code::Length;
+        }
+        if at > text.len() {
+            return Code::Range;
+        }
+        let spot = spot_of(text, FIRST, at as u32);
+        *into = Position {
+            line: spot.line,
+            column: spot.column,
+        };
         Code::Done
     }
 
