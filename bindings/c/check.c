@@ -117,11 +117,11 @@ static void prints(struct filgordd_session *s, const char *wanted) {
     if (strcmp(room, wanted)) printf("%s is printed, not %s\n", room, wanted), failures++;
 }
 
-/* A call that makes more than the options say stays. */
+/* A call that makes more than the options say stays. A group counts as one token. */
 static void limits(void) {
     const char *text = "macro_rules! w { () => { w!{} w!{} } } macro_rules! b { () => { c!{} } } "
                        "macro_rules! c { () => { 1 2 } } b!{} w!{}";
-    const struct { size_t calls, tokens, faults; } rows[] = {{2, 6, 1}, {1, 6, 2}, {2, 5, 2}, {9, 0, 1}};
+    const struct { size_t calls, tokens, faults; } rows[] = {{2, 5, 1}, {1, 5, 2}, {2, 4, 2}, {9, 0, 1}};
     for (size_t i = 0; i < sizeof rows / sizeof *rows; i++) {
         struct filgordd_session s = FILGORDD_SESSION_INIT;
         const struct filgordd_options options = {2024, FILGORDD_GRAMMAR_RUST, FILGORDD_SCOPE_TOP, 128, rows[i].calls, rows[i].tokens};
@@ -448,25 +448,25 @@ static void random_edits(int count, uint32_t scope, bool is_under) {
 }
 
 /* What a call that needs no session told, by a room of exactly as many bytes. */
-static void is_told(const char *wanted, const char *told, uint32_t code, size_t len) {
+static void is_told(const char *wanted, const char *told, uint32_t code, const size_t *len) {
     SAME(code, FILGORDD_OK);
-    SAME(len, strlen(wanted));
-    if (len == strlen(wanted) && memcmp(told, wanted, len)) printf("%.*s, not %s\n", (int)len, told, wanted), failures++;
+    SAME(*len, strlen(wanted));
+    if (*len == strlen(wanted) && memcmp(told, wanted, *len)) printf("%.*s, not %s\n", (int)*len, told, wanted), failures++;
 }
 
 /* The version, the words for codes and faults, and positions. */
 static void words_and_positions(void) {
     char room[64] = "";
     size_t len = 7;
-    is_told(FILGORDD_VERSION, room, filgordd_version(room, strlen(FILGORDD_VERSION), &len), len);
+    is_told(FILGORDD_VERSION, room, filgordd_version(room, strlen(FILGORDD_VERSION), &len), &len);
     SAME(filgordd_version(room, strlen(FILGORDD_VERSION) - 1, &len), FILGORDD_ROOM);
     SAME(filgordd_version(NULL, 0, &len), FILGORDD_ROOM);
     SAME(len, strlen(FILGORDD_VERSION));
-    is_told("done", room, filgordd_code_words(FILGORDD_OK, room, 64, &len), len);
-    is_told("out of memory", room, filgordd_code_words(FILGORDD_MEMORY, room, 64, &len), len);
-    is_told("a pointer is NULL", room, filgordd_code_words(FILGORDD_NULL, room, 64, &len), len);
-    is_told("no rule matches this call", room, filgordd_fault_words(FILGORDD_CANNOT_EXPAND, room, 64, &len), len);
-    is_told("group left open", room, filgordd_reading_fault_words(FILGORDD_GROUP_LEFT_OPEN, room, 64, &len), len);
+    is_told("done", room, filgordd_code_words(FILGORDD_OK, room, 64, &len), &len);
+    is_told("out of memory", room, filgordd_code_words(FILGORDD_MEMORY, room, 64, &len), &len);
+    is_told("a pointer is NULL", room, filgordd_code_words(FILGORDD_NULL, room, 64, &len), &len);
+    is_told("no rule matches this call", room, filgordd_fault_words(FILGORDD_CANNOT_EXPAND, room, 64, &len), &len);
+    is_told("group left open", room, filgordd_reading_fault_words(FILGORDD_GROUP_LEFT_OPEN, room, 64, &len), &len);
     for (uint32_t i = 0; i < 64; i++) {
         SAME(filgordd_code_words(i, room, 64, &len), i <= FILGORDD_CFG ? FILGORDD_OK : FILGORDD_INDEX);
         SAME(filgordd_fault_words(i, room, 64, &len), i <= FILGORDD_TOO_LARGE ? FILGORDD_OK : FILGORDD_INDEX);

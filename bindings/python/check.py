@@ -75,7 +75,7 @@ LIMITS = "macro_rules! w { () => { w!{} w!{} } } macro_rules! b { () => { c!{} }
 
 
 def limits():
-    for calls, tokens, faults in ((2, 6, 1), (1, 6, 2), (2, 5, 2), (9, 0, 1)):
+    for calls, tokens, faults in ((2, 5, 1), (1, 5, 2), (2, 4, 2), (9, 0, 1)):
         expansion = Session(LIMITS, most_calls=calls, most_tokens=tokens).expand()
         assert [it.kind for it in expansion.faults] == [FaultKind.TOO_LARGE] * faults
     for bad in (-1, 1 << 64):

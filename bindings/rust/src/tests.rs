@@ -55,7 +55,7 @@ fn scopes() {
 #[test]
 fn limits() {
     let text = "macro_rules! w { () => { w!{} w!{} } } macro_rules! b { () => { c!{} } } macro_rules! c { () => { 1 2 } } b!{} w!{}";
-    for (calls, tokens, faults) in [(2, 6, 1), (1, 6, 2), (2, 5, 2), (9, 0, 1)] {
+    for (calls, tokens, faults) in [(2, 5, 1), (1, 5, 2), (2, 4, 2), (9, 0, 1)] {
         let (most_calls, most_tokens) = (NonZeroUsize::new(calls), NonZeroUsize::new(tokens));
         let options = Options { most_calls, most_tokens, ..Options::default() };
         let mut session = Session::with_options(text, options).expect("it is opened");
