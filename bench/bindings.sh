@@ -3,18 +3,18 @@
 # and takes it out again, and each time expands the text. First it tells the instructions of each call, by callgrind where
 # valgrind is installed, which other work on the machine does not change. Then it compares with the program of bench/edits,
 # which does the same in Rattle with the same input and has to tell the same, also in processor time, the least of five
-# runs. With CALLS_ALONE=1 it leaves that out. EXPANDER_ARCHIVES may name the folders of the archives, as for
+# runs. With CALLS_ALONE=1 it leaves that out. FILGORDD_ARCHIVES may name the folders of the archives, as for
 # .ci/bindings: then none is built before.
 . "$(dirname "$(readlink -f "${BASH_SOURCE[0]}")")/common.sh"
 turns=${1:-2000}
-if [ -z "${EXPANDER_ARCHIVES-}" ]; then
-    (cd "$top/crates/expander_c" && rt lib >&2) || exit 2
-    EXPANDER_ARCHIVES=$top/crates/expander_c/out:$(dirname "$(rt doc)")/c
+if [ -z "${FILGORDD_ARCHIVES-}" ]; then
+    (cd "$top/crates/filgordd_c" && rt lib >&2) || exit 2
+    FILGORDD_ARCHIVES=$top/crates/filgordd_c/out:$(dirname "$(rt doc)")/c
 fi
-IFS=: read -ra folders <<<"$EXPANDER_ARCHIVES"
+IFS=: read -ra folders <<<"$FILGORDD_ARCHIVES"
 archives=()
 for folder in "${folders[@]}"; do
-    for name in expander_c libc_c; do
+    for name in filgordd_c libc_c; do
         [ ! -f "$folder/lib$name.a" ] || archives+=("$folder/lib$name.a")
     done
 done
@@ -36,8 +36,8 @@ instructions() {
 # What a call of a kind of turn takes.
 call() {
     local none many
-    none=$(instructions "$1" 0 "$work/turns" "expander_raw_$2")
-    many=$(instructions "$1" "$turns" "$work/turns" "expander_raw_$2")
+    none=$(instructions "$1" 0 "$work/turns" "filgordd_raw_$2")
+    many=$(instructions "$1" "$turns" "$work/turns" "filgordd_raw_$2")
     echo "  $3: $(( (many - none) / turns )) instructions"
 }
 if command -v valgrind >/dev/null; then

@@ -6,7 +6,7 @@
 #   - of each call of a session through the library for C, by bench/sources/steps.c: reading the sources, picking their
 #     definitions, the first answer, an answer after an edit of a letter, and the answer after an edit in a source.
 # STD is the folder `library` of an installed rust-src, as for bench/survey.sh. FILGORDD is the program, by default that
-# of bin/filgordd. EXPANDER_ARCHIVES may name the folders of the archives, as for .ci/bindings. What is not named is
+# of bin/filgordd. FILGORDD_ARCHIVES may name the folders of the archives, as for .ci/bindings. What is not named is
 # proved and built first.
 # shellcheck source=bench/common.sh
 . "$(dirname "$(readlink -f "${BASH_SOURCE[0]}")")/common.sh"
@@ -22,14 +22,14 @@ if [ -z "$program" ]; then
     "$top/bin/filgordd" expand </dev/null || exit 2
     program=$top/crates/filgordd/out/filgordd
 fi
-if [ -z "${EXPANDER_ARCHIVES-}" ]; then
-    (cd "$top/crates/expander_c" && rt lib >&2) || exit 2
-    EXPANDER_ARCHIVES=$top/crates/expander_c/out:$(dirname "$(rt doc)")/c
+if [ -z "${FILGORDD_ARCHIVES-}" ]; then
+    (cd "$top/crates/filgordd_c" && rt lib >&2) || exit 2
+    FILGORDD_ARCHIVES=$top/crates/filgordd_c/out:$(dirname "$(rt doc)")/c
 fi
-IFS=: read -ra folders <<<"$EXPANDER_ARCHIVES"
+IFS=: read -ra folders <<<"$FILGORDD_ARCHIVES"
 archives=()
 for folder in "${folders[@]}"; do
-    for name in expander_c libc_c; do
+    for name in filgordd_c libc_c; do
         [ ! -f "$folder/lib$name.a" ] || archives+=("$folder/lib$name.a")
     done
 done

@@ -1,12 +1,12 @@
 # shellcheck shell=bash
 # For the commands beside it: `run_on_text` and `run_with_words` run a program and end with its status. The first run,
 # and the first after a source changed, proves and builds the program before.
-version=0.1.0
 # Bytes that the input and the output of a run before the proof may have.
 limit=1048576
 # What the program is run with.
 words=()
 top=$(cd "$(dirname "$(readlink -f "${BASH_SOURCE[0]}")")/.." && pwd) || exit 2
+version=$(<"$top/VERSION") || exit 2
 
 usage() {
     echo "usage: bin/$command [--quick] $arguments"

@@ -12,7 +12,7 @@ from pathlib import Path
 
 sys.dont_write_bytecode = True
 sys.path.insert(0, str(Path(__file__).resolve().parents[2] / "bindings" / "python"))
-from expander import Session  # noqa: E402
+from filgordd import Session  # noqa: E402
 
 TURNS = 11
 MACROS = "macro_rules! p { ($a:ident $b:tt) => { $b $a } }\n"

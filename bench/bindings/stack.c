@@ -2,7 +2,7 @@
  * closes it, and hands it over as a word for `cfg`, each on a thread with a stack of its own. Prints for each call how many
  * bytes of it were written, and the code that expanding answered. */
 #define _GNU_SOURCE
-#include "expander.h"
+#include "filgordd.h"
 #include <pthread.h>
 #include <stdio.h>
 #include <stdlib.h>
@@ -11,7 +11,7 @@
 
 #define STACK ((size_t)1 << 30)
 
-static struct expander_session session = EXPANDER_SESSION_INIT;
+static struct filgordd_session session = FILGORDD_SESSION_INIT;
 static char *text;
 static size_t len;
 static uint32_t grammar, edition, code;
@@ -21,39 +21,39 @@ static void *nothing(void *unused) {
     return unused;
 }
 static void *opened(void *unused) {
-    code = expander_open(&session, text, len, edition, depth, grammar);
+    code = filgordd_open(&session, text, len, edition, depth, grammar);
     return unused;
 }
 /* The text as a word for `cfg`. */
 static void *named(void *unused) {
-    const struct expander_options options = {edition, grammar, EXPANDER_SCOPE_RUST, depth, 0, 0};
-    const struct expander_word words[] = {{"unix", 4}, {text, len}};
-    struct expander_session other = EXPANDER_SESSION_INIT;
-    expander_open_cfg(&other, "", 0, &options, words, 2);
-    expander_close(&other);
+    const struct filgordd_options options = {edition, grammar, FILGORDD_SCOPE_RUST, depth, 0, 0};
+    const struct filgordd_word words[] = {{"unix", 4}, {text, len}};
+    struct filgordd_session other = FILGORDD_SESSION_INIT;
+    filgordd_open_cfg(&other, "", 0, &options, words, 2);
+    filgordd_close(&other);
     return unused;
 }
 static void *edited(void *unused) {
-    expander_edit(&session, 0, 0, " ", 1);
+    filgordd_edit(&session, 0, 0, " ", 1);
     return unused;
 }
 static void *expanded(void *unused) {
-    code = expander_expand(&session);
+    code = filgordd_expand(&session);
     return unused;
 }
 static void *asked(void *unused) {
-    struct expander_counts counts = {0, 0, 0, 0};
-    if (expander_counts(&session, &counts)) return unused;
-    void *room = calloc(counts.printed + counts.tokens + counts.faults + 1, sizeof(struct expander_fault));
-    expander_printed(&session, room, counts.printed);
-    expander_token_ranges(&session, room, counts.tokens);
-    expander_origins(&session, room, counts.tokens);
-    for (size_t i = 0; i < counts.faults; i++) expander_fault(&session, i, room);
+    struct filgordd_counts counts = {0, 0, 0, 0};
+    if (filgordd_counts(&session, &counts)) return unused;
+    void *room = calloc(counts.printed + counts.tokens + counts.faults + 1, sizeof(struct filgordd_fault));
+    filgordd_printed(&session, room, counts.printed);
+    filgordd_token_ranges(&session, room, counts.tokens);
+    filgordd_origins(&session, room, counts.tokens);
+    for (size_t i = 0; i < counts.faults; i++) filgordd_fault(&session, i, room);
     free(room);
     return unused;
 }
 static void *closed(void *unused) {
-    expander_close(&session);
+    filgordd_close(&session);
     return unused;
 }
 

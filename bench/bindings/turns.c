@@ -1,20 +1,20 @@
 /* The program bench/edits/main.rt.in through C: the same input, the same calls, the same output. */
-#include "expander.h"
+#include "filgordd.h"
 #include <stdio.h>
 #include <stdlib.h>
 #include <string.h>
 
 static size_t tokens, expanded;
 
-static int told(struct expander_session *s) {
-    struct expander_counts counts = {0, 0, 0, 0};
-    if (expander_expand(s) || expander_counts(s, &counts)) return 1;
+static int told(struct filgordd_session *s) {
+    struct filgordd_counts counts = {0, 0, 0, 0};
+    if (filgordd_expand(s) || filgordd_counts(s, &counts)) return 1;
     tokens = counts.tokens, expanded = counts.expanded;
     return 0;
 }
 
-static int open_text(struct expander_session *s, const char *text, size_t len) {
-    return expander_open(s, text, len, 2024, 128, EXPANDER_GRAMMAR_SMALL) || told(s);
+static int open_text(struct filgordd_session *s, const char *text, size_t len) {
+    return filgordd_open(s, text, len, 2024, 128, FILGORDD_GRAMMAR_SMALL) || told(s);
 }
 
 static char *input(size_t *len) {
@@ -32,20 +32,20 @@ int main(void) {
     if (!text || sscanf(bytes, "%c %zu %zu %63s", &what, &turns, &at, word) != 4) return 2;
     *text++ = 0, len -= (size_t)(text - bytes);
     if (!strcmp(word, "+")) word[0] = '\n';
-    struct expander_session session = EXPANDER_SESSION_INIT;
+    struct filgordd_session session = FILGORDD_SESSION_INIT;
     int failed = open_text(&session, text, len);
     for (size_t i = 0; i < turns && !failed; i++) {
         if (what == 's') {
-            struct expander_session other = EXPANDER_SESSION_INIT;
+            struct filgordd_session other = FILGORDD_SESSION_INIT;
             failed = open_text(&other, text, len);
-            expander_close(&other);
+            filgordd_close(&other);
         } else {
             size_t n = strlen(word);
-            failed = i % 2 ? expander_edit(&session, at, at + n, "", 0) : expander_edit(&session, at, at, word, n);
+            failed = i % 2 ? filgordd_edit(&session, at, at + n, "", 0) : filgordd_edit(&session, at, at, word, n);
             if (!failed) failed = told(&session);
         }
     }
-    expander_close(&session);
+    filgordd_close(&session);
     free(bytes);
     if (failed) return 2;
     printf("%zu %zu\n", tokens, expanded);

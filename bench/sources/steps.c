@@ -6,7 +6,7 @@
  *     e START END [WORD]   replaces bytes by a word
  *     x                    expands
  * and what stands behind a # in a line is its name. */
-#include "expander.h"
+#include "filgordd.h"
 #include <stdio.h>
 #include <stdlib.h>
 #include <string.h>
@@ -18,8 +18,8 @@
 #include <valgrind/callgrind.h>
 #endif
 
-static struct expander_session session = EXPANDER_SESSION_INIT;
-static struct expander_counts counts;
+static struct filgordd_session session = FILGORDD_SESSION_INIT;
+static struct filgordd_counts counts;
 
 static char *text_of(const char *path, size_t *len) {
     FILE *file = fopen(path, "rb");
@@ -37,7 +37,7 @@ struct step {
     char what, *text, word[64], root[64];
     size_t len, start, end, picks;
     uint32_t number;
-    struct expander_pick pick[64];
+    struct filgordd_pick pick[64];
 };
 
 static struct step step_of(char *line) {
@@ -50,7 +50,7 @@ static struct step step_of(char *line) {
     case 'e': if (sscanf(line, "e %zu %zu %63s", &s.start, &s.end, s.word) < 2) exit(4); break;
     case 'p':
         for (; s.picks < 64 && sscanf(line + at, " %u%n", &s.number, &n) == 1; at += n)
-            s.pick[s.picks++] = (struct expander_pick){s.number, EXPANDER_ALL};
+            s.pick[s.picks++] = (struct filgordd_pick){s.number, FILGORDD_ALL};
         break;
     case 'x': break;
     default: exit(4);
@@ -60,14 +60,14 @@ static struct step step_of(char *line) {
 }
 
 static uint32_t run(struct step *s) {
-    struct expander_source_told told;
+    struct filgordd_source_told told;
     int own = !strcmp(s->root, "-");
     switch (s->what) {
-    case 'o': return expander_open(&session, s->text, s->len, 2021, 128, EXPANDER_GRAMMAR_RUST);
-    case 's': return expander_source(&session, s->number, own ? NULL : s->root, own ? 0 : strlen(s->root), 2021, s->text, s->len, &told);
-    case 'e': return expander_edit(&session, s->start, s->end, s->word, strlen(s->word));
-    case 'p': return expander_prelude(&session, s->pick, s->picks);
-    default: return expander_expand(&session);
+    case 'o': return filgordd_open(&session, s->text, s->len, 2021, 128, FILGORDD_GRAMMAR_RUST);
+    case 's': return filgordd_source(&session, s->number, own ? NULL : s->root, own ? 0 : strlen(s->root), 2021, s->text, s->len, &told);
+    case 'e': return filgordd_edit(&session, s->start, s->end, s->word, strlen(s->word));
+    case 'p': return filgordd_prelude(&session, s->pick, s->picks);
+    default: return filgordd_expand(&session);
     }
 }
 
@@ -95,9 +95,9 @@ int main(void) {
             return 1;
         }
         printf("%s\t%.1f", name ? name : line, taken);
-        if (s.what == 'x' && !expander_counts(&session, &counts)) printf("\t%zu\t%zu", counts.tokens, counts.expanded);
+        if (s.what == 'x' && !filgordd_counts(&session, &counts)) printf("\t%zu\t%zu", counts.tokens, counts.expanded);
         puts("");
     }
-    expander_close(&session);
+    filgordd_close(&session);
     return 0;
 }

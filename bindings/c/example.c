@@ -1,33 +1,33 @@
 /* Expands a text, edits it, and expands it again: what each token of the answer comes from. */
-#include "expander.h"
+#include "filgordd.h"
 #include <stdio.h>
 #include <stdlib.h>
 #include <string.h>
 
-static int show(struct expander_session *s) {
-    uint32_t code = expander_expand(s);
-    if (code == EXPANDER_UNREAD) {
-        struct expander_fault fault = {0, {0, 0}};
-        expander_reading_fault(s, &fault);
+static int show(struct filgordd_session *s) {
+    uint32_t code = filgordd_expand(s);
+    if (code == FILGORDD_UNREAD) {
+        struct filgordd_fault fault = {0, {0, 0}};
+        filgordd_reading_fault(s, &fault);
         printf("unread: kind %u at %u to %u\n", fault.kind, fault.range.start, fault.range.end);
         return 0;
     }
     if (code) return printf("refused: %u\n", code), 1;
 
-    struct expander_counts counts = {0, 0, 0, 0};
-    expander_counts(s, &counts);
+    struct filgordd_counts counts = {0, 0, 0, 0};
+    filgordd_counts(s, &counts);
     char *printed = calloc(counts.printed, 1);
-    struct expander_range *at = calloc(counts.tokens, sizeof *at), *from = calloc(counts.tokens, sizeof *from);
-    code = expander_printed(s, printed, counts.printed);
-    if (!code) code = expander_token_ranges(s, at, counts.tokens);
-    if (!code) code = expander_origins(s, from, counts.tokens);
+    struct filgordd_range *at = calloc(counts.tokens, sizeof *at), *from = calloc(counts.tokens, sizeof *from);
+    code = filgordd_printed(s, printed, counts.printed);
+    if (!code) code = filgordd_token_ranges(s, at, counts.tokens);
+    if (!code) code = filgordd_origins(s, from, counts.tokens);
     if (!code) {
         fwrite(printed, 1, counts.printed, stdout);
         for (size_t i = 0; i < counts.tokens; i++)
             printf("  %.*s from %u to %u\n", (int)(at[i].end - at[i].start), printed + at[i].start, from[i].start, from[i].end);
         for (size_t i = 0; i < counts.faults; i++) {
-            struct expander_fault fault = {0, {0, 0}};
-            expander_fault(s, i, &fault);
+            struct filgordd_fault fault = {0, {0, 0}};
+            filgordd_fault(s, i, &fault);
             printf("  fault: kind %u at %u to %u\n", fault.kind, fault.range.start, fault.range.end);
         }
         printf("  expanded: %zu\n", counts.expanded);
@@ -38,12 +38,12 @@ static int show(struct expander_session *s) {
 
 int main(void) {
     const char *text = "macro_rules! p { ($a:ident $b:tt) => { $b $a } } p!{ x y }";
-    struct expander_session session = EXPANDER_SESSION_INIT;
-    if (expander_open(&session, text, strlen(text), 2024, 128, EXPANDER_GRAMMAR_RUST)) return 1;
+    struct filgordd_session session = FILGORDD_SESSION_INIT;
+    if (filgordd_open(&session, text, strlen(text), 2024, 128, FILGORDD_GRAMMAR_RUST)) return 1;
     int failed = show(&session);
-    failed |= expander_edit(&session, 55, 56, "z", 1) || show(&session);
-    failed |= expander_edit(&session, 53, 54, "1", 1) || show(&session);
-    failed |= expander_edit(&session, 57, 58, "", 0) || show(&session);
-    expander_close(&session);
+    failed |= filgordd_edit(&session, 55, 56, "z", 1) || show(&session);
+    failed |= filgordd_edit(&session, 53, 54, "1", 1) || show(&session);
+    failed |= filgordd_edit(&session, 57, 58, "", 0) || show(&session);
+    filgordd_close(&session);
     return failed;
 }

@@ -1,356 +1,102 @@
-/* The expander for C: sessions over a text that is edited and expanded.
- *
- * Link libexpander_c.a (`rt lib` in crates/expander_c) and liblibc_c.a of the Rattle kit.
- *
- *     struct expander_session session = EXPANDER_SESSION_INIT;
- *     if (expander_open(&session, text, strlen(text), 2024, 128, EXPANDER_GRAMMAR_RUST)) return 1;
- *     uint32_t code = expander_expand(&session);
- *     ...
- *     expander_close(&session);
- *
- * Ownership. The caller provides the struct, which is EXPANDER_SESSION_INIT before its first use, and
- * owns what it holds until expander_close. An open session has to be closed once, or its memory is
- * never freed. Closing it again does nothing. The struct may be moved while no call runs, but not
- * used as two copies: a copy of an open session is not known to be one, and closing both frees twice.
- *
- * Memory. Each function below says what its pointers are to. In all of them:
- *   - The memory is there, and initialised, until the call returns: room that is only written to as well,
- *     with anything, as by calloc. No call keeps a pointer that it is passed, and none hands one out.
- *   - It is aligned as C aligns its type: bytes anywhere, numbers, ranges, faults and picks at 4,
- *     sessions, options, counts, lengths, words and what is told of a source at 8.
- *   - No two pointers of a call overlap, but words may share bytes. Nobody else writes what they are to during
- *     the call, nor reads what it writes. No element is read or written beyond the length that is said.
- *   - A pointer with a length may be NULL if the length is 0, but that of a word. Any other pointer that is NULL
- *     is refused.
- *
- * Answers. Texts are copied in, and answers are copied out into room that the caller provides. An answer
- * stays until the next expander_expand that gives one; edits leave it.
- *
- * Threads. A session is used by one call at a time, on any thread. It may go from one thread to another
- * if what the second does comes after what the first did, as by a lock, or where a thread starts or is
- * joined. Two threads may use two sessions at once: no call is passed two of them, they share nothing, and
- * the library has no variable of its own, not by thread either. No call may come from a signal handler,
- * or from the forked child of a process with threads.
- *
- * Stack. expander_expand takes most, and a thread whose stack is too small ends the process by a signal. No
- * proof speaks of it. Measured, on unproved builds, it takes
- *   - 20 KiB, and 800 bytes for each level of calls: 220 KiB for 255;
- *   - with the grammar of Rust up to 290 KiB more, where 4,096 of its rules are in one another, as in
- *     `..` 4,090 times: what is deeper is not taken, and no rule fits the call;
- *   - with the small grammar 5 to 13 bytes more for each level of a type, so its bound is the text's length.
- * So 2 MiB are enough with the grammar of Rust, and 4 MiB leave room for other builds. Nothing else that a
- * text nests takes stack. The other calls took less than 8 KiB.
- *
- * Sources. A text may use definitions of other texts. A source is a text that was read for its definitions,
- * those of its inline modules too; it belongs to the session, and has a number from 1 on. The definitions
- * that a text is expanded after are its prelude, which is empty at first: expander_prelude picks them out of
- * the sources of the session. Its own definitions come after them, so they are nearer.
- *
- * Codes. Each function but expander_close returns one. A call that is refused changes nothing: neither
- * the session, nor its answer, nor what the pointers point to, except for the wanted length of
- * expander_text. No call ends the program, unwinds, reads or writes a file, or starts a thread.
- *
- * Proved. The library is proved, under the caller's part of the bargain, which nothing checks: what is
- * said above of memory, and that nobody writes a session's struct. The proofs are of a session that stays
- * on one thread, and speak neither of the stack nor of freeing; docs/decisions/0043-sessions-may-move.md
- * says why a session may move. Memory comes from malloc, realloc and free. They have to be one allocator's,
- * may be called from any thread, and align a block to each power of two up to 16 that divides its size. */
+/* The names that this header's library had before version 0.1.0: each is another word for that of filgordd.h.
+ * They stay for one version. Write filgordd_ for expander_, and FILGORDD_ for EXPANDER_. */
 #ifndef EXPANDER_H
 #define EXPANDER_H
 
-#include <stddef.h>
-#include <stdint.h>
+#include "filgordd.h"
 
-#ifdef __cplusplus
-extern "C" {
-#endif
+#define EXPANDER_VERSION FILGORDD_VERSION
+#define expander_session filgordd_session
+#define EXPANDER_SESSION_INIT FILGORDD_SESSION_INIT
+#define expander_code filgordd_code
+#define EXPANDER_OK FILGORDD_OK
+#define EXPANDER_UNREAD FILGORDD_UNREAD
+#define EXPANDER_MEMORY FILGORDD_MEMORY
+#define EXPANDER_TOKENS FILGORDD_TOKENS
+#define EXPANDER_NUMBERS FILGORDD_NUMBERS
+#define EXPANDER_CLOSED FILGORDD_CLOSED
+#define EXPANDER_UTF8 FILGORDD_UTF8
+#define EXPANDER_LENGTH FILGORDD_LENGTH
+#define EXPANDER_EDITION FILGORDD_EDITION
+#define EXPANDER_GRAMMAR FILGORDD_GRAMMAR
+#define EXPANDER_BOUNDARY FILGORDD_BOUNDARY
+#define EXPANDER_RANGE FILGORDD_RANGE
+#define EXPANDER_NOTHING FILGORDD_NOTHING
+#define EXPANDER_INDEX FILGORDD_INDEX
+#define EXPANDER_ROOM FILGORDD_ROOM
+#define EXPANDER_NULL FILGORDD_NULL
+#define EXPANDER_ROOT FILGORDD_ROOT
+#define EXPANDER_SOURCE FILGORDD_SOURCE
+#define EXPANDER_SCOPE FILGORDD_SCOPE
+#define EXPANDER_CFG FILGORDD_CFG
+#define expander_grammar filgordd_grammar
+#define EXPANDER_GRAMMAR_SMALL FILGORDD_GRAMMAR_SMALL
+#define EXPANDER_GRAMMAR_RUST FILGORDD_GRAMMAR_RUST
+#define expander_scope filgordd_scope
+#define EXPANDER_SCOPE_TOP FILGORDD_SCOPE_TOP
+#define EXPANDER_SCOPE_RUST FILGORDD_SCOPE_RUST
+#define expander_fault_kind filgordd_fault_kind
+#define EXPANDER_CANNOT_EXPAND FILGORDD_CANNOT_EXPAND
+#define EXPANDER_BROKEN_DEFINITION FILGORDD_BROKEN_DEFINITION
+#define EXPANDER_RECURSION_LIMIT FILGORDD_RECURSION_LIMIT
+#define EXPANDER_NESTED_DEFINITION FILGORDD_NESTED_DEFINITION
+#define EXPANDER_UNSPELLABLE FILGORDD_UNSPELLABLE
+#define EXPANDER_TOO_LARGE FILGORDD_TOO_LARGE
+#define expander_reading_fault_kind filgordd_reading_fault_kind
+#define EXPANDER_BAD_TOKEN FILGORDD_BAD_TOKEN
+#define EXPANDER_CLOSER_DOES_NOT_FIT FILGORDD_CLOSER_DOES_NOT_FIT
+#define EXPANDER_GROUP_LEFT_OPEN FILGORDD_GROUP_LEFT_OPEN
+#define expander_options filgordd_options
+#define expander_word filgordd_word
+#define expander_range filgordd_range
+#define expander_fault filgordd_fault
+#define expander_counts filgordd_counts
+#define expander_source_told filgordd_source_told
+#define expander_pick filgordd_pick
+#define EXPANDER_ALL FILGORDD_ALL
+#define expander_position filgordd_position
+#define expander_raw_open filgordd_raw_open
+#define expander_raw_open_with filgordd_raw_open_with
+#define expander_raw_open_cfg filgordd_raw_open_cfg
+#define expander_raw_close filgordd_raw_close
+#define expander_raw_text filgordd_raw_text
+#define expander_raw_is_boundary filgordd_raw_is_boundary
+#define expander_raw_fits filgordd_raw_fits
+#define expander_raw_edit filgordd_raw_edit
+#define expander_raw_expand filgordd_raw_expand
+#define expander_raw_counts filgordd_raw_counts
+#define expander_raw_printed filgordd_raw_printed
+#define expander_raw_fault filgordd_raw_fault
+#define expander_raw_reading_fault filgordd_raw_reading_fault
+#define expander_raw_origins filgordd_raw_origins
+#define expander_raw_token_ranges filgordd_raw_token_ranges
+#define expander_raw_source filgordd_raw_source
+#define expander_raw_prelude filgordd_raw_prelude
+#define expander_raw_sources filgordd_raw_sources
+#define expander_raw_position filgordd_raw_position
+#define expander_raw_version filgordd_raw_version
+#define expander_raw_code_words filgordd_raw_code_words
+#define expander_raw_fault_words filgordd_raw_fault_words
+#define expander_raw_reading_fault_words filgordd_raw_reading_fault_words
+#define expander_open filgordd_open
+#define expander_open_with filgordd_open_with
+#define expander_open_cfg filgordd_open_cfg
+#define expander_close filgordd_close
+#define expander_text filgordd_text
+#define expander_is_boundary filgordd_is_boundary
+#define expander_fits filgordd_fits
+#define expander_edit filgordd_edit
+#define expander_expand filgordd_expand
+#define expander_printed filgordd_printed
+#define expander_reading_fault filgordd_reading_fault
+#define expander_origins filgordd_origins
+#define expander_token_ranges filgordd_token_ranges
+#define expander_source filgordd_source
+#define expander_prelude filgordd_prelude
+#define expander_sources filgordd_sources
+#define expander_version filgordd_version
+#define expander_code_words filgordd_code_words
+#define expander_fault_words filgordd_fault_words
+#define expander_reading_fault_words filgordd_reading_fault_words
 
-/* A session, or none. `held` is NULL if there is none; only EXPANDER_SESSION_INIT and calls write it. */
-struct expander_session {
-    void *held;
-};
-#define EXPANDER_SESSION_INIT {NULL}
-
-enum expander_code {
-    EXPANDER_OK = 0,
-    EXPANDER_UNREAD = 1,   /* the text cannot be read as trees: expander_reading_fault says why */
-    EXPANDER_MEMORY = 2,   /* there is no memory for it */
-    EXPANDER_TOKENS = 3,   /* there would be more than 4,294,967,295 tokens */
-    EXPANDER_NUMBERS = 4,  /* more than 4,294,967,295 definitions would have got an id */
-    EXPANDER_CLOSED = 5,   /* the struct holds no session */
-    EXPANDER_UTF8 = 6,     /* the bytes are not UTF-8 */
-    EXPANDER_LENGTH = 7,   /* a text would have more than 4,294,967,295 bytes */
-    EXPANDER_EDITION = 8,  /* there is no such edition */
-    EXPANDER_GRAMMAR = 9,  /* there is no such grammar */
-    EXPANDER_BOUNDARY = 10, /* an offset is within a character */
-    EXPANDER_RANGE = 11,   /* the bytes are not all in the text, or end before they start */
-    EXPANDER_NOTHING = 12, /* the last answer is not of this kind, or there is none */
-    EXPANDER_INDEX = 13,   /* there is nothing of this index */
-    EXPANDER_ROOM = 14,    /* there is not enough room; nothing was written to it */
-    EXPANDER_NULL = 15,    /* a pointer is NULL, and not to be */
-    EXPANDER_ROOT = 16,    /* the word cannot stand for a crate */
-    EXPANDER_SOURCE = 17,  /* there is no source of this number, or, of number 0, there can be none */
-    EXPANDER_SCOPE = 18,   /* there are no such rules of scopes */
-    EXPANDER_CFG = 19      /* a word names no option for conditional compilation */
-};
-
-/* What fragments such as `$e:expr` take. The grammar of Rust, in the edition of the session, knows all
- * fragments; the small one has no statements, no items, no closures and no control flow. */
-enum expander_grammar {
-    EXPANDER_GRAMMAR_SMALL = 0,
-    EXPANDER_GRAMMAR_RUST = 1
-};
-
-/* Which definitions a name can find. By the rules of Rust's textual scope those of the lists around the call come
- * first: of a block, a module, a result; and the `;` behind an item's call goes with the call. By those of the top level
- * there are only those that are pieces of a text, and each `;` stays. */
-enum expander_scope {
-    EXPANDER_SCOPE_TOP = 0,
-    EXPANDER_SCOPE_RUST = 1
-};
-
-enum expander_fault_kind {
-    EXPANDER_CANNOT_EXPAND = 0,     /* no rule fits the call */
-    EXPANDER_BROKEN_DEFINITION = 1, /* the definition's rules cannot be parsed */
-    EXPANDER_RECURSION_LIMIT = 2,   /* no level is left for the call */
-    EXPANDER_NESTED_DEFINITION = 3, /* `macro_rules` or `macro` is in the output */
-    EXPANDER_UNSPELLABLE = 4,       /* a token has no spelling, and was omitted */
-    EXPANDER_TOO_LARGE = 5          /* the call makes more than the options say */
-};
-
-enum expander_reading_fault_kind {
-    EXPANDER_BAD_TOKEN = 0,
-    EXPANDER_CLOSER_DOES_NOT_FIT = 1,
-    EXPANDER_GROUP_LEFT_OPEN = 2
-};
-
-/* What a session is opened with: an edition, 2015, 2018, 2021 or 2024; a grammar and rules of scopes, of the enums
- * above; how many levels of calls are expanded; how many calls may be expanded for one call of the text, itself among
- * them, and how many tokens their results may have together, each 0 for no limit. A call that makes more stays. */
-struct expander_options {
-    uint32_t edition, grammar, scope;
-    uint8_t depth;
-    size_t calls, tokens;
-};
-
-/* A word of a list, of `len` bytes of UTF-8. It names an option for conditional compilation, as after `--cfg` of rustc:
- * `NAME`, or `NAME="VALUE"` with a string of Rust. Blanks and comments around these do not count. */
-struct expander_word {
-    const void *bytes;
-    size_t len;
-};
-
-/* The bytes of a text from `start` up to, but not including, `end`. */
-struct expander_range {
-    uint32_t start, end;
-};
-
-/* A fault, of one of the two enums above, and the bytes of the expanded text that it is reported at. */
-struct expander_fault {
-    uint32_t kind;
-    struct expander_range range;
-};
-
-/* How much an expansion has: bytes of its printed text, printed tokens, faults, and pieces that were
- * expanded anew since the last text that was read did not have them. */
-struct expander_counts {
-    size_t printed, tokens, faults, expanded;
-};
-
-/* What a text is read as: how many definitions the source has, or, if it cannot be read, the fault, which is
- * of enum expander_reading_fault_kind, and the bytes of that text. */
-struct expander_source_told {
-    size_t definitions;
-    struct expander_fault fault;
-};
-
-/* A definition of a source, by the source's number and the definition's index there. The index EXPANDER_ALL
- * stands for all definitions of the source that are in no inline module and have no attribute
- * `rustc_builtin_macro`, in order. */
-struct expander_pick {
-    uint32_t source, index;
-};
-#define EXPANDER_ALL UINT32_MAX
-
-/* The calls as the library exports them. Here no pointer may be NULL, also if there are no elements: it
- * is then any that is aligned. C callers use the functions below, which test that. */
-uint32_t expander_raw_open(struct expander_session *, const uint8_t *, size_t, uint32_t, uint8_t, uint32_t);
-uint32_t expander_raw_open_with(struct expander_session *, const uint8_t *, size_t, const struct expander_options *);
-uint32_t expander_raw_open_cfg(struct expander_session *, const uint8_t *, size_t, const struct expander_options *,
-                               const struct expander_word *, size_t);
-void expander_raw_close(struct expander_session *);
-uint32_t expander_raw_text(struct expander_session *, uint8_t *, size_t, size_t *);
-uint32_t expander_raw_is_boundary(struct expander_session *, size_t);
-uint32_t expander_raw_fits(struct expander_session *, size_t, size_t, size_t);
-uint32_t expander_raw_edit(struct expander_session *, size_t, size_t, const uint8_t *, size_t);
-uint32_t expander_raw_expand(struct expander_session *);
-uint32_t expander_raw_counts(struct expander_session *, struct expander_counts *);
-uint32_t expander_raw_printed(struct expander_session *, uint8_t *, size_t);
-uint32_t expander_raw_fault(struct expander_session *, size_t, struct expander_fault *);
-uint32_t expander_raw_reading_fault(struct expander_session *, struct expander_fault *);
-uint32_t expander_raw_origins(struct expander_session *, struct expander_range *, size_t);
-uint32_t expander_raw_token_ranges(struct expander_session *, struct expander_range *, size_t);
-uint32_t expander_raw_source(struct expander_session *, uint32_t, const uint8_t *, size_t, uint32_t, const uint8_t *,
-                             size_t, struct expander_source_told *);
-uint32_t expander_raw_prelude(struct expander_session *, const struct expander_pick *, size_t);
-uint32_t expander_raw_sources(struct expander_session *, uint32_t *, size_t);
-
-/* In all of them `s` is to a session's struct, which is EXPANDER_SESSION_INIT before its first use. */
-
-/* Opens a session over a copy of the text, in place of what the struct holds, which is closed.
- * `text` is to `len` bytes, which are only read.
- * `edition` is 2015, 2018, 2021 or 2024; `depth` is how many levels of calls are expanded (the program
- * `expand` takes 128); `grammar` is one of the enum above. Names find pieces of texts alone, as by
- * EXPANDER_SCOPE_TOP. Nothing is expanded yet. If it is refused, what the struct held stays open.
- * OK, EDITION, GRAMMAR, LENGTH, UTF8, MEMORY, NULL. */
-static inline uint32_t expander_open(struct expander_session *s, const void *text, size_t len, uint32_t edition,
-                                     uint8_t depth, uint32_t grammar) {
-    if (!s || (!text && len)) return EXPANDER_NULL;
-    return expander_raw_open(s, text ? (const uint8_t *)text : (const uint8_t *)"", len, edition, depth, grammar);
-}
-
-/* The same by all options: `options` is to one struct, which is only read. `cfg` is not evaluated: nothing is left
- * out. OK, EDITION, GRAMMAR, SCOPE, LENGTH, UTF8, MEMORY, NULL. */
-static inline uint32_t expander_open_with(struct expander_session *s, const void *text, size_t len,
-                                          const struct expander_options *options) {
-    if (!s || !options || (!text && len)) return EXPANDER_NULL;
-    return expander_raw_open_with(s, text ? (const uint8_t *)text : (const uint8_t *)"", len, options);
-}
-
-/* The same, and `cfg` is evaluated: exactly the options that the words name are set, for as long as the session is
- * open. Definitions, and whole items in lists of items, whose `cfg` is then false are left out, those of sources too;
- * docs/GUIDE.md says which items are whole. `words` is to `n` structs, each to bytes, which are only read; with none
- * no option is set, so that what needs one is left out.
- * OK, EDITION, GRAMMAR, SCOPE, CFG, LENGTH, UTF8, TOKENS (of a word), MEMORY, NULL. */
-static inline uint32_t expander_open_cfg(struct expander_session *s, const void *text, size_t len,
-                                         const struct expander_options *options, const struct expander_word *words,
-                                         size_t n) {
-    struct expander_word none = {"", 0};
-    if (!s || !options || (!text && len) || (!words && n)) return EXPANDER_NULL;
-    for (size_t i = 0; i < n; i++)
-        if (!words[i].bytes) return EXPANDER_NULL;
-    return expander_raw_open_cfg(s, text ? (const uint8_t *)text : (const uint8_t *)"", len, options,
-                                 words ? words : &none, n);
-}
-
-/* Closes the session and frees all that it holds. Nothing happens if there is none. */
-static inline void expander_close(struct expander_session *s) {
-    if (s) expander_raw_close(s);
-}
-
-/* The text: its length to `*wanted`, and its bytes to the beginning of the room. `room` is to `len` bytes,
- * which may be more than the text has, and `wanted` to a length. OK, CLOSED, ROOM, NULL. */
-static inline uint32_t expander_text(struct expander_session *s, void *room, size_t len, size_t *wanted) {
-    uint8_t none = 0;
-    if (!s || !wanted || (!room && len)) return EXPANDER_NULL;
-    return expander_raw_text(s, room ? (uint8_t *)room : &none, len, wanted);
-}
-
-/* Whether offset `at` is a character boundary of the text, its end included: OK if it is, and BOUNDARY or
- * RANGE if not. Also CLOSED, NULL. */
-static inline uint32_t expander_is_boundary(struct expander_session *s, size_t at) {
-    return s ? expander_raw_is_boundary(s, at) : (uint32_t)EXPANDER_NULL;
-}
-
-/* Whether `len` bytes can replace those from `start` to `end`, as far as lengths go: OK if so, and RANGE
- * or LENGTH if not. Also CLOSED, NULL. */
-static inline uint32_t expander_fits(struct expander_session *s, size_t start, size_t end, size_t len) {
-    return s ? expander_raw_fits(s, start, end, len) : (uint32_t)EXPANDER_NULL;
-}
-
-/* Replaces the bytes from `start` to `end`. `replacement` is to `len` bytes, which are only read.
- * OK, CLOSED, RANGE, LENGTH, BOUNDARY, UTF8, MEMORY, NULL. */
-static inline uint32_t expander_edit(struct expander_session *s, size_t start, size_t end, const void *replacement,
-                                     size_t len) {
-    if (!s || (!replacement && len)) return EXPANDER_NULL;
-    return expander_raw_edit(s, start, end, replacement ? (const uint8_t *)replacement : (const uint8_t *)"", len);
-}
-
-/* Expands the text. The answer, an expansion or a reading fault, is kept in place of the last one.
- * OK, UNREAD; and if there is no answer CLOSED, MEMORY, TOKENS, NUMBERS, NULL. */
-static inline uint32_t expander_expand(struct expander_session *s) {
-    return s ? expander_raw_expand(s) : (uint32_t)EXPANDER_NULL;
-}
-
-/* How much the expansion has. `into` is to one struct. OK, CLOSED, NOTHING, NULL. */
-static inline uint32_t expander_counts(struct expander_session *s, struct expander_counts *into) {
-    return s && into ? expander_raw_counts(s, into) : (uint32_t)EXPANDER_NULL;
-}
-
-/* The printed text: `counts.printed` bytes of UTF-8, without a NUL. `room` is to `len` bytes.
- * OK, CLOSED, NOTHING, ROOM, NULL. */
-static inline uint32_t expander_printed(struct expander_session *s, void *room, size_t len) {
-    uint8_t none = 0;
-    if (!s || (!room && len)) return EXPANDER_NULL;
-    return expander_raw_printed(s, room ? (uint8_t *)room : &none, len);
-}
-
-/* The fault of this index, in order of start, end and kind. `into` is to one struct.
- * OK, CLOSED, NOTHING, INDEX, NULL. */
-static inline uint32_t expander_fault(struct expander_session *s, size_t index, struct expander_fault *into) {
-    return s && into ? expander_raw_fault(s, index, into) : (uint32_t)EXPANDER_NULL;
-}
-
-/* The reading fault. `into` is to one struct. OK, CLOSED, NOTHING, NULL. */
-static inline uint32_t expander_reading_fault(struct expander_session *s, struct expander_fault *into) {
-    return s && into ? expander_raw_reading_fault(s, into) : (uint32_t)EXPANDER_NULL;
-}
-
-/* Where each of the `counts.tokens` printed tokens comes from: bytes of the expanded text, or of the source
- * that expander_sources names, as only a prelude can bring about. `room` is to `len` structs.
- * OK, CLOSED, NOTHING, ROOM, NULL. */
-static inline uint32_t expander_origins(struct expander_session *s, struct expander_range *room, size_t len) {
-    struct expander_range none = {0, 0};
-    if (!s || (!room && len)) return EXPANDER_NULL;
-    return expander_raw_origins(s, room ? room : &none, len);
-}
-
-/* Where each of them is in the printed text. A lifetime is two tokens, its quote and its name. They are
- * found at each call, without memory. `room` is to `len` structs.
- * OK, CLOSED, NOTHING, ROOM, LENGTH (of the printed text), NULL. */
-static inline uint32_t expander_token_ranges(struct expander_session *s, struct expander_range *room, size_t len) {
-    struct expander_range none = {0, 0};
-    if (!s || (!room && len)) return EXPANDER_NULL;
-    return expander_raw_token_ranges(s, room ? room : &none, len);
-}
-
-/* Reads a text of `len` bytes as the source of this number, from 1 on, in place of the one that has it. The
- * prelude stays as it is, of the old source too. Without a root the text belongs to the crate of the session's
- * text, and `edition` is not looked at. Else it belongs to another crate: `$crate` in its definitions is
- * printed as `root`, of `root_len` bytes of UTF-8, such as `std`, and they are of that edition. `into` is to
- * one struct, in which how many definitions the source has is written, or, if the text cannot be read, the
- * fault; then the old source stays.
- * OK, UNREAD; and if the text is not read CLOSED, SOURCE, ROOT, EDITION, LENGTH, UTF8, MEMORY, TOKENS, NULL. */
-static inline uint32_t expander_source(struct expander_session *s, uint32_t number, const void *root, size_t root_len,
-                                       uint32_t edition, const void *text, size_t len,
-                                       struct expander_source_told *into) {
-    const uint8_t *none = (const uint8_t *)"";
-    if (!s || !into || (!root && root_len) || (!text && len)) return EXPANDER_NULL;
-    return expander_raw_source(s, number, root ? (const uint8_t *)root : none, root_len, edition,
-                               text ? (const uint8_t *)text : none, len, into);
-}
-
-/* From the next expansion on the text is expanded after these definitions, in order, the nearest last. Besides,
- * every definition of each source of another crate is seen behind the crate's root, as by `$crate::name` in
- * another of its definitions, unless it has the attribute `rustc_builtin_macro`. Nothing that was expanded is
- * lost: only pieces of which a look-up now gives another definition are expanded anew. `picks` is to `n`
- * structs, which are only read; with none only what is seen behind roots is left.
- * OK, CLOSED, SOURCE, INDEX, MEMORY, TOKENS (of a definition, with its `$crate`), NULL. */
-static inline uint32_t expander_prelude(struct expander_session *s, const struct expander_pick *picks, size_t n) {
-    struct expander_pick none = {0, 0};
-    if (!s || (!picks && n)) return EXPANDER_NULL;
-    return expander_raw_prelude(s, picks ? picks : &none, n);
-}
-
-/* Which text each of the `counts.tokens` printed tokens comes from: 0 for the expanded text, or the number of a
- * source. `room` is to `len` numbers. OK, CLOSED, NOTHING, ROOM, NULL. */
-static inline uint32_t expander_sources(struct expander_session *s, uint32_t *room, size_t len) {
-    uint32_t none = 0;
-    if (!s || (!room && len)) return EXPANDER_NULL;
-    return expander_raw_sources(s, room ? room : &none, len);
-}
-
-#ifdef __cplusplus
-}
-#endif
 #endif

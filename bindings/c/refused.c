@@ -3,7 +3,7 @@
  * that is a session on which it was not made, and the call is made again; then the rest of the script follows on
  * both. No block may be left when they are closed. Link with
  * -Wl,--wrap=malloc,--wrap=realloc,--wrap=free. */
-#include "expander.h"
+#include "filgordd.h"
 #include <stdbool.h>
 #include <stdio.h>
 #include <stdlib.h>
@@ -69,11 +69,11 @@ static const struct step script[] = {
     {EXPAND, 0, 0, ""},
     {EDIT, 16, 16, " broken"},
     {EXPAND, 0, 0, ""},
-    {OPEN, EXPANDER_SCOPE_RUST, 0, "fn f() { macro_rules! m { ($t:tt) => { macro_rules! n { () => { $t } } } } m!{1} n!{} { m!{2} n!{} } }"},
+    {OPEN, FILGORDD_SCOPE_RUST, 0, "fn f() { macro_rules! m { ($t:tt) => { macro_rules! n { () => { $t } } } } m!{1} n!{} { m!{2} n!{} } }"},
     {EXPAND, 0, 0, ""},
     {OPEN, 0, 0, ""},
     {EXPAND, 0, 0, ""},
-    {OPEN, EXPANDER_SCOPE_RUST, 1, "#[cfg(unix)] macro_rules! m { () => { 1 } } #[cfg(not(a = \"b\"))] fn f() { m!{} } m!{}"},
+    {OPEN, FILGORDD_SCOPE_RUST, 1, "#[cfg(unix)] macro_rules! m { () => { 1 } } #[cfg(not(a = \"b\"))] fn f() { m!{} } m!{}"},
     {EXPAND, 0, 0, ""},
     {EDIT, 6, 10, "test"},
     {EXPAND, 0, 0, ""},
@@ -89,20 +89,20 @@ static const struct step script[] = {
 };
 #define STEPS (sizeof script / sizeof *script)
 
-static uint32_t make(struct expander_session *s, const struct step *it) {
+static uint32_t make(struct filgordd_session *s, const struct step *it) {
     size_t len = strlen(it->text);
-    struct expander_source_told told = {0, {0, {0, 0}}};
-    struct expander_pick all = {(uint32_t)it->start, EXPANDER_ALL};
-    struct expander_options options = {2024, EXPANDER_GRAMMAR_RUST, (uint32_t)it->start, 128, 0, 0};
-    const struct expander_word words[] = {{"unix", 4}, {"a = \"b\\n\"", 9}, {"unix", 4}};
+    struct filgordd_source_told told = {0, {0, {0, 0}}};
+    struct filgordd_pick all = {(uint32_t)it->start, FILGORDD_ALL};
+    struct filgordd_options options = {2024, FILGORDD_GRAMMAR_RUST, (uint32_t)it->start, 128, 0, 0};
+    const struct filgordd_word words[] = {{"unix", 4}, {"a = \"b\\n\"", 9}, {"unix", 4}};
     switch (it->call) {
     case OPEN:
-        if (it->end) return expander_open_cfg(s, it->text, len, &options, words, 3);
-        return expander_open_with(s, it->text, len, &options);
-    case EDIT: return expander_edit(s, it->start, it->end, it->text, len);
-    case SOURCE: return expander_source(s, all.source, "std", it->end ? 3 : 0, 2018, it->text, len, &told);
-    case PRELUDE: return expander_prelude(s, &all, 1);
-    default: return expander_expand(s);
+        if (it->end) return filgordd_open_cfg(s, it->text, len, &options, words, 3);
+        return filgordd_open_with(s, it->text, len, &options);
+    case EDIT: return filgordd_edit(s, it->start, it->end, it->text, len);
+    case SOURCE: return filgordd_source(s, all.source, "std", it->end ? 3 : 0, 2018, it->text, len, &told);
+    case PRELUDE: return filgordd_prelude(s, &all, 1);
+    default: return filgordd_expand(s);
     }
 }
 
@@ -132,24 +132,24 @@ static void note(struct told *to, uint32_t code) {
     memcpy(room(to, sizeof code), &code, sizeof code);
 }
 
-static void tell(struct expander_session *s, struct told *to) {
-    struct expander_counts counts = {0, 0, 0, 0};
+static void tell(struct filgordd_session *s, struct told *to) {
+    struct filgordd_counts counts = {0, 0, 0, 0};
     size_t wanted = 0;
     memset(to, 0, sizeof *to);
-    expander_text(s, NULL, 0, &wanted);
-    note(to, expander_text(s, room(to, wanted), wanted, &wanted));
-    note(to, expander_reading_fault(s, room(to, sizeof(struct expander_fault))));
-    note(to, expander_counts(s, &counts));
+    filgordd_text(s, NULL, 0, &wanted);
+    note(to, filgordd_text(s, room(to, wanted), wanted, &wanted));
+    note(to, filgordd_reading_fault(s, room(to, sizeof(struct filgordd_fault))));
+    note(to, filgordd_counts(s, &counts));
     memcpy(room(to, sizeof counts), &counts, sizeof counts);
-    note(to, expander_printed(s, room(to, counts.printed), counts.printed));
-    note(to, expander_token_ranges(s, room(to, counts.tokens * sizeof(struct expander_range)), counts.tokens));
-    note(to, expander_origins(s, room(to, counts.tokens * sizeof(struct expander_range)), counts.tokens));
-    note(to, expander_sources(s, room(to, counts.tokens * sizeof(uint32_t)), counts.tokens));
-    for (size_t i = 0; i < counts.faults; i++) note(to, expander_fault(s, i, room(to, sizeof(struct expander_fault))));
+    note(to, filgordd_printed(s, room(to, counts.printed), counts.printed));
+    note(to, filgordd_token_ranges(s, room(to, counts.tokens * sizeof(struct filgordd_range)), counts.tokens));
+    note(to, filgordd_origins(s, room(to, counts.tokens * sizeof(struct filgordd_range)), counts.tokens));
+    note(to, filgordd_sources(s, room(to, counts.tokens * sizeof(uint32_t)), counts.tokens));
+    for (size_t i = 0; i < counts.faults; i++) note(to, filgordd_fault(s, i, room(to, sizeof(struct filgordd_fault))));
 }
 
 /* Whether the same is told of both, which takes no memory. */
-static bool alike(struct expander_session *one, struct expander_session *other) {
+static bool alike(struct filgordd_session *one, struct filgordd_session *other) {
     static struct told is, wanted;
     long before = requests;
     tell(one, &is), tell(other, &wanted);
@@ -160,14 +160,14 @@ static bool alike(struct expander_session *one, struct expander_session *other) 
 
 /* Makes the script with a request refused in one step. Whether that step made so many requests. */
 static bool refuse(size_t step, long request) {
-    struct expander_session s = EXPANDER_SESSION_INIT, other = EXPANDER_SESSION_INIT;
+    struct filgordd_session s = FILGORDD_SESSION_INIT, other = FILGORDD_SESSION_INIT;
     bool met = false;
     for (size_t i = 0; i < STEPS; i++) {
         if (i == step) {
             left = request, was_refused = false;
             uint32_t code = make(&s, &script[i]);
             left = -1, met = was_refused;
-            if (code == EXPANDER_MEMORY) {
+            if (code == FILGORDD_MEMORY) {
                 if (!met) fail("MEMORY, and nothing was refused", i, request);
                 if (!alike(&s, &other)) fail("the refused call changed something", i, request);
             } else {
@@ -180,7 +180,7 @@ static bool refuse(size_t step, long request) {
         if (!alike(&s, &other)) fail("another answer afterwards", i, request);
     }
     long before = requests;
-    expander_close(&s), expander_close(&other);
+    filgordd_close(&s), filgordd_close(&other);
     if (requests != before) fail("closing asked for memory", step, request);
     if (blocks) fail("blocks are left", step, request), blocks = 0;
     return met;

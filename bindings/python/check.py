@@ -12,11 +12,12 @@ import random
 import signal
 import sys
 import threading
+import warnings
 import weakref
 
-import expander
-from expander import Code, Fault, FaultKind, Grammar, Range, ReadFault, ReadFaultKind
-from expander import Refused, Session, Token, Unread
+import filgordd
+from filgordd import Code, Fault, FaultKind, Grammar, Range, ReadFault, ReadFaultKind
+from filgordd import Refused, Session, Token, Unread
 
 TEXT = "macro_rules! p { ($a:ident $b:tt) => { $b $a } } p!{ x y }"
 
@@ -66,7 +67,7 @@ def scopes():
     assert expansion.printed == "fn f ( ) { 1 }\n" and not expansion.faults
     assert all(raises(ValueError, Session, text, scope=bad) for bad in ("", "Rust", "list"))
     assert all(raises(TypeError, Session, text, scope=bad) for bad in (0, None, b"rust", True))
-    never, options = Session.__new__(Session), expander._Options(2024, Grammar.RUST, 2, 128, 0, 0)
+    never, options = Session.__new__(Session), filgordd._Options(2024, Grammar.RUST, 2, 128, 0, 0)
     assert refusal(never._call, "open_with", b"", 0, ctypes.byref(options)) == Code.SCOPE
 
 
@@ -74,7 +75,7 @@ LIMITS = "macro_rules! w { () => { w!{} w!{} } } macro_rules! b { () => { c!{} }
 
 
 def limits():
-    for calls, tokens, faults in ((2, 6, 1), (1, 6, 2), (2, 5, 2), (9, 0, 1)):
+    for calls, tokens, faults in ((2, 5, 1), (1, 5, 2), (2, 4, 2), (9, 0, 1)):
         expansion = Session(LIMITS, most_calls=calls, most_tokens=tokens).expand()
         assert [it.kind for it in expansion.faults] == [FaultKind.TOO_LARGE] * faults
     for bad in (-1, 1 << 64):
@@ -99,10 +100,10 @@ def conditions():
     session.source(1, "macro_rules! p { () => { 3 } } #[cfg(not(test))] macro_rules! p { () => { 4 } }")
     session.prelude([1])
     assert session.expand().printed == "3\n"
-    never, options = Session.__new__(Session), expander._Options(2024, Grammar.RUST, 1, 128)
+    never, options = Session.__new__(Session), filgordd._Options(2024, Grammar.RUST, 1, 128)
     arguments = b"", 0, ctypes.byref(options)
-    assert refusal(never._call, "open_cfg", *arguments, *expander._words("cfg", ["a="])) == Code.CFG
-    word = (expander._Word * 1)((b"\xff", 1))
+    assert refusal(never._call, "open_cfg", *arguments, *filgordd._words("cfg", ["a="])) == Code.CFG
+    word = (filgordd._Word * 1)((b"\xff", 1))
     assert refusal(never._call, "open_cfg", *arguments, word, 1) == Code.UTF8
 
 
@@ -110,7 +111,7 @@ def codes():
     assert refusal(Session, "a", 2020) == Code.EDITION
     assert refusal(Session, "a", 2024, 128, 2) == Code.GRAMMAR
     session = Session("é;")
-    assert refusal(session._call, "counts", ctypes.byref(expander._Counts())) == Code.NOTHING
+    assert refusal(session._call, "counts", ctypes.byref(filgordd._Counts())) == Code.NOTHING
     assert [session.is_boundary(at) for at in range(5)] == [True, False, True, True, False]
     assert session.fits(0, 3, 2**32 - 1) and not session.fits(0, 2, 2**32 - 1) and not session.fits(2, 1, 0)
     assert refusal(session._call, "fits", 0, 2, 2**32 - 1) == Code.LENGTH
@@ -120,7 +121,7 @@ def codes():
     assert session.text == "é;"
     session.expand()
     assert refusal(session._call, "printed", b"", 0) == Code.ROOM
-    assert refusal(session._call, "reading_fault", ctypes.byref(expander._Fault())) == Code.NOTHING
+    assert refusal(session._call, "reading_fault", ctypes.byref(filgordd._Fault())) == Code.NOTHING
     session.edit(3, 3, "(")
     try:
         session.expand()
@@ -165,6 +166,29 @@ def sources():
     assert later.expanded == 2 and set(later.sources) == {0} and later != expansion
     session.close()
     assert refusal(session.source, 1, "") == refusal(session.prelude, []) == Code.CLOSED
+
+
+def words_and_positions():
+    assert filgordd.version() == filgordd.__version__
+    told = [it.words for kinds in (Code, FaultKind, ReadFaultKind) for it in kinds]
+    assert all(told) and len(set(told)) == len(told)
+    assert FaultKind.TOO_LARGE.words == "the expansion of this call is too large"
+    assert refusal(filgordd._told_words, "code_words", 20) == Code.INDEX
+    with Session("a;\né b\n") as session:
+        # From the first byte to the end, a line feed being the last of its line.
+        rows = (1, 1), (1, 2), (1, 3), (2, 1), (2, 2), (2, 3), (2, 4), (2, 5), (3, 1)
+        assert tuple(session.position(at) for at in range(9)) == rows
+        assert refusal(session.position, 9) == Code.RANGE
+        assert raises(ValueError, session.position, -1)
+    assert refusal(session.position, 0) == Code.CLOSED
+
+
+def first_name():
+    with warnings.catch_warnings(record=True) as told:
+        warnings.simplefilter("always")
+        import expander
+    assert [it.category for it in told] == [DeprecationWarning]
+    assert all(getattr(expander, name) is getattr(filgordd, name) for name in filgordd.__all__)
 
 
 def items():
@@ -326,7 +350,7 @@ def within():
 def left():
     """A session that is left is closed on the thread that finds it, one in a cycle by the collector."""
     gc.collect()
-    closed, close = [], expander._library.expander_raw_close
+    closed, close = [], filgordd._library.filgordd_raw_close
 
     def count(held):
         closed.append(threading.get_ident())
@@ -335,7 +359,7 @@ def left():
     class Node:
         pass
 
-    expander._library.expander_raw_close = count
+    filgordd._library.filgordd_raw_close = count
     try:
         for is_cycle in (False, True):
             node = Node()
@@ -347,7 +371,7 @@ def left():
             assert gone() is None and len(closed) == 1
             assert closed.pop() != threading.get_ident()
     finally:
-        expander._library.expander_raw_close = close
+        filgordd._library.filgordd_raw_close = close
 
 
 def answer(session):
@@ -390,7 +414,7 @@ def random_edits(count):
     assert read >= count // 3
 
 
-for check in (the_row, grammars, scopes, limits, conditions, codes, sources, items, numbers, once, shared, meanwhile, within, left):
+for check in (the_row, grammars, scopes, limits, conditions, codes, sources, words_and_positions, first_name, items, numbers, once, shared, meanwhile, within, left):
     check()
 random_edits(int(sys.argv[1]) if len(sys.argv) > 1 else 1000)
-sys.exit(doctest.testmod(expander).failed)
+sys.exit(doctest.testmod(filgordd).failed)

@@ -1,6 +1,6 @@
 """Expands a text, edits it, and expands it again: what each token of the answer comes from."""
 
-from expander import Session, Unread
+from filgordd import Session, Unread
 
 
 def show(session: Session) -> None:

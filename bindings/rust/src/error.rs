@@ -1,4 +1,6 @@
 //! Why a call is refused.
+use crate::sys;
+use crate::words::Words;
 use std::fmt;
 
 /// Why a call is refused. The session is as it was.
@@ -27,39 +29,57 @@ pub enum Error {
     Cfg,
 }
 
+impl Error {
+    // The number of its code.
+    fn code(self) -> u32 {
+        match self {
+            Error::Memory => 2,
+            Error::Tokens => 3,
+            Error::Numbers => 4,
+            Error::Length => 7,
+            Error::Boundary => 10,
+            Error::Range => 11,
+            Error::Index => 13,
+            Error::Root => 16,
+            Error::Source => 17,
+            Error::Cfg => 19,
+        }
+    }
+}
+
+/// The words that the library has for the code.
+///
+/// ```
+/// assert_eq!(filgordd::Error::Boundary.to_string(), "an offset is within a character");
+/// ```
 impl fmt::Display for Error {
     fn fmt(&self, f: &mut fmt::Formatter<'_>) -> fmt::Result {
-        f.write_str(match self {
-            Error::Memory => "out of memory",
-            Error::Tokens => "too many tokens",
-            Error::Numbers => "too many definitions",
-            Error::Length => "the text is too long",
-            Error::Boundary => "an offset is within a character",
-            Error::Range => "the range is not in the text",
-            Error::Index => "a source has no definition of this index",
-            Error::Root => "the word cannot stand for a crate",
-            Error::Source => "there is no source of this number",
-            Error::Cfg => "a word names no option for conditional compilation",
-        })
+        Words::of(sys::filgordd_raw_code_words, self.code()).fmt(f)
     }
 }
 
 impl std::error::Error for Error {}
 
+const ALL: [Error; 10] = [
+    Error::Memory,
+    Error::Tokens,
+    Error::Numbers,
+    Error::Length,
+    Error::Boundary,
+    Error::Range,
+    Error::Index,
+    Error::Root,
+    Error::Source,
+    Error::Cfg,
+];
+
 /// `Ok` for the code 0. No other code but these comes from what this crate calls.
 pub(crate) fn checked(code: u32) -> Result<(), Error> {
-    Err(match code {
-        0 => return Ok(()),
-        2 => Error::Memory,
-        3 => Error::Tokens,
-        4 => Error::Numbers,
-        7 => Error::Length,
-        10 => Error::Boundary,
-        11 => Error::Range,
-        13 => Error::Index,
-        16 => Error::Root,
-        17 => Error::Source,
-        19 => Error::Cfg,
-        _ => unreachable!("code {code}"),
-    })
+    if code == 0 {
+        return Ok(());
+    }
+    match ALL.into_iter().find(|it| it.code() == code) {
+        Some(error) => Err(error),
+        None => unreachable!("code {code}"),
+    }
 }

@@ -13,25 +13,47 @@
 //! ```
 //!
 //! Ranges are of bytes. A range of the text has to begin and end at character boundaries.
+//!
+//! The crate links the library of a release of Filgordd, and of the same version: that of the folder
+//! `FILGORDD_DIR`, where it was installed or unpacked, or the one that `pkg-config` knows, or the one in
+//! the crate's own folder `native`.
+
+#![deny(missing_docs)]
 
 mod error;
 mod sys;
+mod words;
 
 pub use error::Error;
 
 use error::checked;
 use std::cell::UnsafeCell;
+use std::fmt;
 use std::num::NonZeroUsize;
 use std::ops::Range;
+use words::Words;
 
 const UNREAD: u32 = 1;
+
+/// The version of the library, which is that of this crate.
+///
+/// ```
+/// assert_eq!(filgordd::version(), env!("CARGO_PKG_VERSION"));
+/// ```
+pub fn version() -> String {
+    Words::version().as_str().into()
+}
 
 /// The edition of all identifiers of a text.
 #[derive(Clone, Copy, Debug, PartialEq, Eq, Hash)]
 pub enum Edition {
+    /// That of 2015.
     Edition2015 = 2015,
+    /// That of 2018.
     Edition2018 = 2018,
+    /// That of 2021.
     Edition2021 = 2021,
+    /// That of 2024.
     Edition2024 = 2024,
 }
 
@@ -60,8 +82,11 @@ pub enum Scope {
 /// the top level, 128 levels of calls, no evaluation of `cfg`, and no limit of what a call makes.
 #[derive(Clone, Copy, Debug, PartialEq, Eq, Hash)]
 pub struct Options<'a> {
+    /// What fragments such as `$e:expr` take.
     pub grammar: Grammar,
+    /// The edition of all identifiers of the text.
     pub edition: Edition,
+    /// Which definitions a name can find.
     pub scope: Scope,
     /// How many levels of calls are expanded.
     pub depth: u8,
@@ -106,26 +131,57 @@ pub enum FaultKind {
     TooLarge,
 }
 
+/// The words that `filgordd expand` prints for it.
+impl fmt::Display for FaultKind {
+    fn fmt(&self, f: &mut fmt::Formatter<'_>) -> fmt::Result {
+        Words::of(sys::filgordd_raw_fault_words, *self as u32).fmt(f)
+    }
+}
+
 /// A fault, and the bytes of the text that it is reported at.
 #[derive(Clone, Debug, PartialEq, Eq, Hash)]
 pub struct Fault {
+    /// What it is.
     pub kind: FaultKind,
+    /// The bytes of the text.
     pub range: Range<usize>,
 }
 
 /// Why a text cannot be read as trees.
 #[derive(Clone, Copy, Debug, PartialEq, Eq, Hash)]
 pub enum ReadFaultKind {
+    /// Bytes that are no token.
     BadToken,
+    /// A closing bracket that does not fit the opening one, or that has none.
     CloserDoesNotFit,
+    /// An opening bracket without its closing one.
     GroupLeftOpen,
+}
+
+/// The words that `filgordd expand` prints for it.
+impl fmt::Display for ReadFaultKind {
+    fn fmt(&self, f: &mut fmt::Formatter<'_>) -> fmt::Result {
+        Words::of(sys::filgordd_raw_reading_fault_words, *self as u32).fmt(f)
+    }
 }
 
 /// The first fault of a text that cannot be read, and its bytes.
 #[derive(Clone, Debug, PartialEq, Eq, Hash)]
 pub struct ReadFault {
+    /// What it is.
     pub kind: ReadFaultKind,
+    /// The bytes of the text.
     pub range: Range<usize>,
+}
+
+/// Where a byte of a text is: its line and its byte column, both from 1, as `filgordd expand` prints
+/// them. Lines end at line feeds.
+#[derive(Clone, Copy, Debug, PartialEq, Eq, Hash)]
+pub struct Position {
+    /// The line.
+    pub line: usize,
+    /// The byte column.
+    pub column: usize,
 }
 
 /// A printed token. A lifetime is two, its quote and its name.
@@ -141,7 +197,9 @@ pub struct Token {
 /// Another crate: the word that its `$crate` is printed as, and the edition of its definitions.
 #[derive(Clone, Copy, Debug, PartialEq, Eq, Hash)]
 pub struct Home<'a> {
+    /// The word, such as `std`.
     pub root: &'a str,
+    /// The edition.
     pub edition: Edition,
 }
 
@@ -211,7 +269,7 @@ fn read_fault(fault: sys::Fault) -> ReadFault {
 /// needs_sync(Session::new("", Edition::Edition2024, 128));
 /// ```
 ///
-/// Expanding may take most of the 2 MiB of stack that a thread of `std` has: `bindings/c/expander.h`
+/// Expanding may take most of the 2 MiB of stack that a thread of `std` has: `bindings/c/filgordd.h`
 /// says how much, and `std::thread::Builder::stack_size` gives more.
 #[derive(Debug)]
 pub struct Session {
@@ -311,14 +369,14 @@ impl Session {
         let (at, len) = (text.as_ptr(), text.len());
         checked(match cfg {
             // SAFETY: the struct holds no session, the bytes are those of a `&str`, and the options are there.
-            None => unsafe { sys::expander_raw_open_with(session.at(), at, len, &options) },
+            None => unsafe { sys::filgordd_raw_open_with(session.at(), at, len, &options) },
             Some(words) => {
                 let words: Vec<sys::Word> = (words.iter())
                     .map(|it| sys::Word { bytes: it.as_ptr(), len: it.len() })
                     .collect();
                 // SAFETY: as above, and there are as many words as are said, each of the bytes of a `&str`.
                 unsafe {
-                    sys::expander_raw_open_cfg(session.at(), at, len, &options, words.as_ptr(), words.len())
+                    sys::filgordd_raw_open_cfg(session.at(), at, len, &options, words.as_ptr(), words.len())
                 }
             }
         })?;
@@ -342,23 +400,40 @@ impl Session {
     pub fn text(&self) -> String {
         let (mut none, mut len) = (0, 0);
         // SAFETY: there is room for 0 bytes, and for the length.
-        unsafe { sys::expander_raw_text(self.at(), &mut none, 0, &mut len) };
+        unsafe { sys::filgordd_raw_text(self.at(), &mut none, 0, &mut len) };
         let mut bytes = vec![0; len];
         // SAFETY: there is room for as many bytes as are said.
-        unsafe { sys::expander_raw_text(self.at(), bytes.as_mut_ptr(), len, &mut len) };
+        unsafe { sys::filgordd_raw_text(self.at(), bytes.as_mut_ptr(), len, &mut len) };
         String::from_utf8(bytes).expect("a session's text is UTF-8")
     }
 
     /// Whether the offset is a character boundary of the text, its end included.
     pub fn is_boundary(&self, at: usize) -> bool {
         // SAFETY: the session is open.
-        unsafe { sys::expander_raw_is_boundary(self.at(), at) == 0 }
+        unsafe { sys::filgordd_raw_is_boundary(self.at(), at) == 0 }
     }
 
     /// Whether `len` bytes can replace these, as far as lengths go.
     pub fn fits(&self, range: Range<usize>, len: usize) -> bool {
         // SAFETY: the session is open.
-        unsafe { sys::expander_raw_fits(self.at(), range.start, range.end, len) == 0 }
+        unsafe { sys::filgordd_raw_fits(self.at(), range.start, range.end, len) == 0 }
+    }
+
+    /// Where the offset of the text is, that of its end included: counted from the beginning of the
+    /// text. A fault and an origin are of the text that was expanded.
+    ///
+    /// ```
+    /// # use filgordd::{Edition, Error, Position, Session};
+    /// let session = Session::new("a;\né b", Edition::Edition2024, 128)?;
+    /// assert_eq!(session.position(6), Ok(Position { line: 2, column: 4 }));
+    /// assert_eq!(session.position(8), Err(Error::Range));
+    /// # Ok::<(), Error>(())
+    /// ```
+    pub fn position(&self, at: usize) -> Result<Position, Error> {
+        let mut into = sys::Position::default();
+        // SAFETY: there is room for a position.
+        checked(unsafe { sys::filgordd_raw_position(self.at(), at, &mut into) })?;
+        Ok(Position { line: into.line, column: into.column })
     }
 
     /// Replaces these bytes of the text.
@@ -373,13 +448,13 @@ impl Session {
     pub fn edit(&mut self, range: Range<usize>, replacement: &str) -> Result<(), Error> {
         let (at, len) = (replacement.as_ptr(), replacement.len());
         // SAFETY: the bytes are those of a `&str`.
-        checked(unsafe { sys::expander_raw_edit(self.at(), range.start, range.end, at, len) })
+        checked(unsafe { sys::filgordd_raw_edit(self.at(), range.start, range.end, at, len) })
     }
 
     /// Expands the text, or says why it cannot be read.
     pub fn expand(&mut self) -> Result<Reply<'_>, Error> {
         // SAFETY: the session is open.
-        match unsafe { sys::expander_raw_expand(self.at()) } {
+        match unsafe { sys::filgordd_raw_expand(self.at()) } {
             UNREAD => Ok(Reply::Unread(self.reading_fault())),
             code => {
                 checked(code)?;
@@ -391,7 +466,7 @@ impl Session {
     fn reading_fault(&self) -> ReadFault {
         let mut fault = sys::Fault::default();
         // SAFETY: there is room for a fault.
-        unsafe { sys::expander_raw_reading_fault(self.at(), &mut fault) };
+        unsafe { sys::filgordd_raw_reading_fault(self.at(), &mut fault) };
         read_fault(fault)
     }
 
@@ -420,7 +495,7 @@ impl Session {
         let (at, len) = (text.as_ptr(), text.len());
         // SAFETY: the bytes are those of `&str`s, and there is room for what is told.
         match unsafe {
-            sys::expander_raw_source(self.at(), number, root.as_ptr(), root.len(), edition, at, len, &mut told)
+            sys::filgordd_raw_source(self.at(), number, root.as_ptr(), root.len(), edition, at, len, &mut told)
         } {
             UNREAD => Ok(Source::Unread(read_fault(told.fault))),
             code => checked(code).map(|()| Source::Read(told.definitions)),
@@ -433,14 +508,14 @@ impl Session {
     pub fn prelude(&mut self, picks: &[Pick]) -> Result<(), Error> {
         let picks: Vec<sys::Pick> = picks.iter().map(|it| it.raw()).collect();
         // SAFETY: there are as many picks as are said.
-        checked(unsafe { sys::expander_raw_prelude(self.at(), picks.as_ptr(), picks.len()) })
+        checked(unsafe { sys::filgordd_raw_prelude(self.at(), picks.as_ptr(), picks.len()) })
     }
 }
 
 impl Drop for Session {
     fn drop(&mut self) {
         // SAFETY: the session is closed once; it may not have been opened, and then nothing happens.
-        unsafe { sys::expander_raw_close(self.at()) }
+        unsafe { sys::filgordd_raw_close(self.at()) }
     }
 }
 
@@ -456,10 +531,10 @@ impl<'s> Expansion<'s> {
     fn of(session: &'s Session) -> Expansion<'s> {
         let mut counts = sys::Counts::default();
         // SAFETY: there is room for the counts.
-        unsafe { sys::expander_raw_counts(session.at(), &mut counts) };
+        unsafe { sys::filgordd_raw_counts(session.at(), &mut counts) };
         let mut bytes = vec![0; counts.printed];
         // SAFETY: there is room for as many bytes as are said.
-        unsafe { sys::expander_raw_printed(session.at(), bytes.as_mut_ptr(), bytes.len()) };
+        unsafe { sys::filgordd_raw_printed(session.at(), bytes.as_mut_ptr(), bytes.len()) };
         let printed = String::from_utf8(bytes).expect("printed text is UTF-8");
         Expansion { session, counts, printed }
     }
@@ -480,7 +555,7 @@ impl<'s> Expansion<'s> {
         (0..self.counts.faults).map(|index| {
             let mut fault = sys::Fault::default();
             // SAFETY: there is room for a fault.
-            unsafe { sys::expander_raw_fault(self.session.at(), index, &mut fault) };
+            unsafe { sys::filgordd_raw_fault(self.session.at(), index, &mut fault) };
             let kind = match fault.kind {
                 0 => FaultKind::CannotExpand,
                 1 => FaultKind::BrokenDefinition,
@@ -510,9 +585,9 @@ impl<'s> Expansion<'s> {
         let mut origins = ranges.clone();
         let at = self.session.at();
         // SAFETY: there is room for as many ranges as are said.
-        checked(unsafe { sys::expander_raw_token_ranges(at, ranges.as_mut_ptr(), count) })?;
+        checked(unsafe { sys::filgordd_raw_token_ranges(at, ranges.as_mut_ptr(), count) })?;
         // SAFETY: as above.
-        checked(unsafe { sys::expander_raw_origins(at, origins.as_mut_ptr(), count) })?;
+        checked(unsafe { sys::filgordd_raw_origins(at, origins.as_mut_ptr(), count) })?;
         let token = |(of, from)| Token { range: range(of), origin: range(from) };
         Ok(ranges.into_iter().zip(origins).map(token))
     }
@@ -522,7 +597,7 @@ impl<'s> Expansion<'s> {
         let mut numbers = vec![0; self.counts.tokens];
         let at = self.session.at();
         // SAFETY: there is room for as many numbers as are said.
-        unsafe { sys::expander_raw_sources(at, numbers.as_mut_ptr(), numbers.len()) };
+        unsafe { sys::filgordd_raw_sources(at, numbers.as_mut_ptr(), numbers.len()) };
         numbers
     }
 }

@@ -1,4 +1,4 @@
-//! What the archive exports. `bindings/c/expander.h` says what each call does.
+//! What the archive exports. `bindings/c/filgordd.h` says what each call does.
 
 #[repr(C)]
 pub struct Session {
@@ -60,14 +60,24 @@ pub struct Word {
     pub len: usize,
 }
 
+#[repr(C)]
+#[derive(Clone, Copy, Debug, Default)]
+pub struct Position {
+    pub line: usize,
+    pub column: usize,
+}
+
+/// A call that tells the words for a number.
+pub type Words = unsafe extern "C" fn(u32, *mut u8, usize, *mut usize) -> u32;
+
 unsafe extern "C" {
-    pub fn expander_raw_open_with(
+    pub fn filgordd_raw_open_with(
         s: *mut Session,
         text: *const u8,
         len: usize,
         options: *const Options,
     ) -> u32;
-    pub fn expander_raw_open_cfg(
+    pub fn filgordd_raw_open_cfg(
         s: *mut Session,
         text: *const u8,
         len: usize,
@@ -75,25 +85,25 @@ unsafe extern "C" {
         words: *const Word,
         count: usize,
     ) -> u32;
-    pub fn expander_raw_close(s: *mut Session);
-    pub fn expander_raw_text(s: *mut Session, room: *mut u8, len: usize, wanted: *mut usize) -> u32;
-    pub fn expander_raw_is_boundary(s: *mut Session, at: usize) -> u32;
-    pub fn expander_raw_fits(s: *mut Session, start: usize, end: usize, len: usize) -> u32;
-    pub fn expander_raw_edit(
+    pub fn filgordd_raw_close(s: *mut Session);
+    pub fn filgordd_raw_text(s: *mut Session, room: *mut u8, len: usize, wanted: *mut usize) -> u32;
+    pub fn filgordd_raw_is_boundary(s: *mut Session, at: usize) -> u32;
+    pub fn filgordd_raw_fits(s: *mut Session, start: usize, end: usize, len: usize) -> u32;
+    pub fn filgordd_raw_edit(
         s: *mut Session,
         start: usize,
         end: usize,
         replacement: *const u8,
         len: usize,
     ) -> u32;
-    pub fn expander_raw_expand(s: *mut Session) -> u32;
-    pub fn expander_raw_counts(s: *mut Session, into: *mut Counts) -> u32;
-    pub fn expander_raw_printed(s: *mut Session, room: *mut u8, len: usize) -> u32;
-    pub fn expander_raw_fault(s: *mut Session, index: usize, into: *mut Fault) -> u32;
-    pub fn expander_raw_reading_fault(s: *mut Session, into: *mut Fault) -> u32;
-    pub fn expander_raw_origins(s: *mut Session, room: *mut Range, len: usize) -> u32;
-    pub fn expander_raw_token_ranges(s: *mut Session, room: *mut Range, len: usize) -> u32;
-    pub fn expander_raw_source(
+    pub fn filgordd_raw_expand(s: *mut Session) -> u32;
+    pub fn filgordd_raw_counts(s: *mut Session, into: *mut Counts) -> u32;
+    pub fn filgordd_raw_printed(s: *mut Session, room: *mut u8, len: usize) -> u32;
+    pub fn filgordd_raw_fault(s: *mut Session, index: usize, into: *mut Fault) -> u32;
+    pub fn filgordd_raw_reading_fault(s: *mut Session, into: *mut Fault) -> u32;
+    pub fn filgordd_raw_origins(s: *mut Session, room: *mut Range, len: usize) -> u32;
+    pub fn filgordd_raw_token_ranges(s: *mut Session, room: *mut Range, len: usize) -> u32;
+    pub fn filgordd_raw_source(
         s: *mut Session,
         number: u32,
         root: *const u8,
@@ -103,6 +113,16 @@ unsafe extern "C" {
         len: usize,
         into: *mut SourceTold,
     ) -> u32;
-    pub fn expander_raw_prelude(s: *mut Session, picks: *const Pick, len: usize) -> u32;
-    pub fn expander_raw_sources(s: *mut Session, room: *mut u32, len: usize) -> u32;
+    pub fn filgordd_raw_prelude(s: *mut Session, picks: *const Pick, len: usize) -> u32;
+    pub fn filgordd_raw_sources(s: *mut Session, room: *mut u32, len: usize) -> u32;
+    pub fn filgordd_raw_position(s: *mut Session, at: usize, into: *mut Position) -> u32;
+    pub fn filgordd_raw_version(room: *mut u8, len: usize, wanted: *mut usize) -> u32;
+    pub fn filgordd_raw_code_words(code: u32, room: *mut u8, len: usize, wanted: *mut usize) -> u32;
+    pub fn filgordd_raw_fault_words(kind: u32, room: *mut u8, len: usize, wanted: *mut usize) -> u32;
+    pub fn filgordd_raw_reading_fault_words(
+        kind: u32,
+        room: *mut u8,
+        len: usize,
+        wanted: *mut usize,
+    ) -> u32;
 }

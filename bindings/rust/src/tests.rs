@@ -55,7 +55,7 @@ fn scopes() {
 #[test]
 fn limits() {
     let text = "macro_rules! w { () => { w!{} w!{} } } macro_rules! b { () => { c!{} } } macro_rules! c { () => { 1 2 } } b!{} w!{}";
-    for (calls, tokens, faults) in [(2, 6, 1), (1, 6, 2), (2, 5, 2), (9, 0, 1)] {
+    for (calls, tokens, faults) in [(2, 5, 1), (1, 5, 2), (2, 4, 2), (9, 0, 1)] {
         let (most_calls, most_tokens) = (NonZeroUsize::new(calls), NonZeroUsize::new(tokens));
         let options = Options { most_calls, most_tokens, ..Options::default() };
         let mut session = Session::with_options(text, options).expect("it is opened");
@@ -144,26 +144,41 @@ fn codes() {
     // SAFETY: each pointer is to as much as is said.
     unsafe {
         let options = sys::Options { edition: 2024, grammar: 0, scope: 0, depth: 0, calls: 0, tokens: 0 };
-        assert_eq!(sys::expander_raw_open_with(at, "a".as_ptr(), 1, &sys::Options { edition: 2020, ..options }), 8);
-        assert_eq!(sys::expander_raw_open_with(at, "a".as_ptr(), 1, &sys::Options { grammar: 2, ..options }), 9);
-        assert_eq!(sys::expander_raw_open_with(at, "a".as_ptr(), 1, &sys::Options { scope: 2, ..options }), 18);
-        assert_eq!(sys::expander_raw_open_with(at, b"\xff".as_ptr(), 1, &options), 6);
+        assert_eq!(sys::filgordd_raw_open_with(at, "a".as_ptr(), 1, &sys::Options { edition: 2020, ..options }), 8);
+        assert_eq!(sys::filgordd_raw_open_with(at, "a".as_ptr(), 1, &sys::Options { grammar: 2, ..options }), 9);
+        assert_eq!(sys::filgordd_raw_open_with(at, "a".as_ptr(), 1, &sys::Options { scope: 2, ..options }), 18);
+        assert_eq!(sys::filgordd_raw_open_with(at, b"\xff".as_ptr(), 1, &options), 6);
         let words = [sys::Word { bytes: b"\xff".as_ptr(), len: 1 }, sys::Word { bytes: "a=".as_ptr(), len: 2 }];
-        assert_eq!(sys::expander_raw_open_cfg(at, "a".as_ptr(), 1, &options, words.as_ptr(), 2), 6);
-        assert_eq!(sys::expander_raw_open_cfg(at, "a".as_ptr(), 1, &options, &words[1], 1), 19);
+        assert_eq!(sys::filgordd_raw_open_cfg(at, "a".as_ptr(), 1, &options, words.as_ptr(), 2), 6);
+        assert_eq!(sys::filgordd_raw_open_cfg(at, "a".as_ptr(), 1, &options, &words[1], 1), 19);
         assert_eq!(session.text(), "a;");
-        assert_eq!(sys::expander_raw_fits(at, 0, 0, usize::MAX), 7);
-        assert_eq!(sys::expander_raw_edit(at, 0, 0, b"\xff".as_ptr(), 1), 6);
-        assert_eq!(sys::expander_raw_counts(at, &mut counts), 12);
-        assert_eq!(sys::expander_raw_expand(at), 0);
-        assert_eq!(sys::expander_raw_reading_fault(at, &mut fault), 12);
-        assert_eq!(sys::expander_raw_fault(at, 0, &mut fault), 13);
-        assert_eq!(sys::expander_raw_printed(at, &mut none, 1), 14);
-        sys::expander_raw_close(at);
-        sys::expander_raw_close(at);
-        assert_eq!(sys::expander_raw_expand(at), 5);
-        assert_eq!(sys::expander_raw_edit(at, 0, 0, b"".as_ptr(), 0), 5);
+        assert_eq!(sys::filgordd_raw_fits(at, 0, 0, usize::MAX), 7);
+        assert_eq!(sys::filgordd_raw_edit(at, 0, 0, b"\xff".as_ptr(), 1), 6);
+        assert_eq!(sys::filgordd_raw_counts(at, &mut counts), 12);
+        assert_eq!(sys::filgordd_raw_expand(at), 0);
+        assert_eq!(sys::filgordd_raw_reading_fault(at, &mut fault), 12);
+        assert_eq!(sys::filgordd_raw_fault(at, 0, &mut fault), 13);
+        assert_eq!(sys::filgordd_raw_printed(at, &mut none, 1), 14);
+        sys::filgordd_raw_close(at);
+        sys::filgordd_raw_close(at);
+        assert_eq!(sys::filgordd_raw_expand(at), 5);
+        assert_eq!(sys::filgordd_raw_edit(at, 0, 0, b"".as_ptr(), 0), 5);
     }
+}
+
+#[test]
+fn words_and_positions() {
+    assert_eq!(version(), env!("CARGO_PKG_VERSION"));
+    assert_eq!(Error::Memory.to_string(), "out of memory");
+    assert_eq!(format!("{:>14}", Error::Memory), " out of memory");
+    assert_eq!(FaultKind::TooLarge.to_string(), "the expansion of this call is too large");
+    assert_eq!(ReadFaultKind::GroupLeftOpen.to_string(), "group left open");
+    let session = open("a;\né b\n");
+    let rows = [(1, 1), (1, 2), (1, 3), (2, 1), (2, 2), (2, 3), (2, 4), (2, 5), (3, 1)];
+    for (at, (line, column)) in rows.into_iter().enumerate() {
+        assert_eq!(session.position(at), Ok(Position { line, column }));
+    }
+    assert_eq!(session.position(9), Err(Error::Range));
 }
 
 // Opened here, edited and expanded there, and again here; dropped there.

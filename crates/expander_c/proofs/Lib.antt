@@ -1,3 +1,0 @@
-pub mod ConditionLemmas
-pub mod CopyLemmas
-pub mod LiveBoxes

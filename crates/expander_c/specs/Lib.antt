@@ -1,7 +1,0 @@
-pub mod Codes
-pub mod Sources
-pub mod Calls
-pub mod Conditions
-pub mod Answered
-pub mod Tellings
-pub mod Handles

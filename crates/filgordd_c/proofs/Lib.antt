@@ -1,0 +1,4 @@
+pub mod ConditionLemmas
+pub mod CopyLemmas
+pub mod LiveBoxes
+mod WordRows
