@@ -25,7 +25,9 @@ pub use disk::{Disk, code_in};
 pub use files::{misused, opened, read_whole, refused, stopped};
 pub use lacking::tell_lacks;
 pub use listing::listed;
-pub use load::{Ended, OtherWords, Others, fault_words, others_of, refusal};
+pub use load::{
+    Ended, OtherWords, Others, Sources, fault_words, others_of, prelude_of, refusal, sources_of,
+};
 pub use shown::{one_line, push_shown};
 pub use source::blank_front;
 pub use walked::Walked;

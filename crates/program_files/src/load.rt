@@ -41,7 +41,7 @@ pub(crate) struct Loaded {
 
 /// The sources whose definitions texts are expanded after, with numbers from 1 in this order.
 #[derive(Drop)]
-pub(crate) struct Sources {
+pub struct Sources {
     /// The files of the library.
     pub(crate) library: Vec<Source>,
     /// The crates of the library.
@@ -244,7 +244,7 @@ pub(crate) fn after(number: u32) -> Result<u32, AllocError>
 
 /// The sources whose definitions texts are expanded after: the library's files, and then
 /// the other files in the order of their words.
-pub(crate) fn sources_of(rt: &HostRuntime, words: OtherWords<'_>) -> Result<Sources, Ended> {
+pub fn sources_of(rt: &HostRuntime, words: OtherWords<'_>) -> Result<Sources, Ended> {
     let mut sources = Sources {
         library: Vec::new(rt.alloc()),
         homes: Vec::new(rt.alloc()),
@@ -264,7 +264,7 @@ pub(crate) fn sources_of(rt: &HostRuntime, words: OtherWords<'_>) -> Result<Sour
 }
 
 /// The definitions of sources, as a prelude.
-pub(crate) fn prelude_of(alloc: Global, sources: &Sources) -> Result<Prelude, TtFault> {
+pub fn prelude_of(alloc: Global, sources: &Sources) -> Result<Prelude, TtFault> {
     let mut prelude = Prelude::new(alloc);
     let library = sources.library.as_slice();
     let homes = sources.homes.as_slice();
