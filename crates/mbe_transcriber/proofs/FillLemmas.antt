@@ -194,6 +194,13 @@ module _ (stands_at : ℕ → Bool) (round_at : ℕ → Option Forest) (output_a
   no-round ZeroOrMore e = ap (λ b. elim b [ true ↦ both joined (round_at 0) (rounds_from stands_at round_at sep (most - 1) 1) | false ↦ Some empty ]) e
   no-round OneOrMore e = ap (λ b. elim b [ true ↦ both joined (round_at 0) (rounds_from stands_at round_at sep (most - 1) 1) | false ↦ None ]) e
 
+  pub none-out : (k : RepeatKind) → stands_at 0 ≡ false → output_of_rounds stands_at round_at output_at (size sep) most k ≡ 0
+  none-out ZeroOrOne e = ap (λ b. elim b [ true ↦ output_at 0 | false ↦ 0 ]) e
+  none-out ZeroOrMore e =
+      ap (λ b. elim b [ true ↦ and_then (round_at 0) (output_at 0) (output_from stands_at round_at output_at (size sep) (most - 1) 1) | false ↦ 0 ]) e
+  none-out OneOrMore e =
+      ap (λ b. elim b [ true ↦ and_then (round_at 0) (output_at 0) (output_from stands_at round_at output_at (size sep) (most - 1) 1) | false ↦ 0 ]) e
+
   pub first-round : (k : RepeatKind) → stands_at 0 ≡ true →
       rounds_of stands_at round_at sep most k ≡ with_later k (round_at 0) (rounds_from stands_at round_at sep (most - 1) 1)
   first-round ZeroOrOne e = ap (λ b. elim b [ true ↦ round_at 0 | false ↦ Some empty ]) e

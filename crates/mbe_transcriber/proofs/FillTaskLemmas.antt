@@ -25,14 +25,15 @@ use Rattle.mbe_rules.proofs.OpsLemmas.{put-Repeat, put-Subtree}
 use Rattle.mbe_matcher.specs.Bindings.{Map}
 use Rattle.mbe_transcriber.specs.Filling.{both, rounds_from, separator_leaves}
 use Rattle.mbe_transcriber.specs.Limits.{most_rounds}
-use Rattle.mbe_transcriber.specs.Given.{Fills, IsBurstBy, is_plain, is_single, gives, puts_out, first_gives, first_puts_out, group_gives, repetition_gives, repetition_puts_out, stands_in, later_gives, later_puts_out, HasRounds}
+use Rattle.mbe_transcriber.specs.Given.{Ends, FailsAfter, Fills, IsBurstBy, is_plain, is_single, gives, puts_out, first_gives, first_puts_out, group_gives, repetition_gives, repetition_puts_out, stands_in, later_gives, later_puts_out, HasRounds}
 use Rattle.mbe_transcriber.specs.Output.{and_then, output_from}
 use Rattle.mbe_transcriber.specs.Room.{LacksRoom}
 use Rattle.mbe_transcriber.specs.Tasks.{Outcome, filled_up, faulty, reached, IsFaulty, put_and, close_in, around, items_and, rounds_and, outcome, GoesOn, Steps, IsBurstIn, work_of, tasks_of, tasks_of_all}
 use Rattle.mbe_transcriber.specs.declared.repetition.Iterations.{Iterations}
+use Rattle.mbe_transcriber.specs.declared.transcriber.Transcribed.TheVariants.{Whole, Fault}
 use Rattle.mbe_transcriber.specs.declared.transcriber.TranscribeTask.{TranscribeTask}
 use Rattle.mbe_transcriber.specs.declared.transcriber.TranscribeTask.TheVariants.{Items as items_task, Close, Leave, Later}
-use Rattle.mbe_transcriber.proofs.FillLemmas.{IsSized, unmoved, sized-gives, sized-first, sized-from, gives-put, puts-put, when_none, with_later, out_later, no-round, first-round, first-out, same-from, same-out}
+use Rattle.mbe_transcriber.proofs.FillLemmas.{IsSized, unmoved, sized-gives, sized-first, sized-from, gives-put, puts-put, when_none, with_later, out_later, no-round, none-out, first-round, first-out, same-from, same-out}
 use Rattle.tt.proofs.Limits.{count-extended}
 use Rattle.mbe_transcriber.proofs.PuttingLemmas.{extended-more, unsome}
 
@@ -189,11 +190,14 @@ module _ (mark : Span → Span) (bound : Map) where
 
   -- one more stands than there may be
   pub too-many : (ns : List ℕ) (x : Iterations) (b : Building) (more : Building → Outcome) → nat_lt x.number x.count ≡ true →
-      most_rounds ≤ x.number → IsFaulty (rounds_and mark bound ns x b more)
+      most_rounds ≤ x.number → IsFaulty b (rounds_and mark bound ns x b more)
   too-many ns x b more e most =
       let n : most_rounds - x.number ≡ 0 = omega (arith, most) in
-      subst (λ o. IsFaulty (put_and o (out_of ns x (most_rounds - x.number) x.number) b more))
-      (sym (ap (λ m. later_of ns x m x.number) n ∙ over-later ns (items_of x.body.now) (option_map (λ s. separator_of s.now) x.separator) x.count x.number e)) tt
+      let none = ap (λ m. later_of ns x m x.number) n
+      ∙ over-later ns (items_of x.body.now) (option_map (λ s. separator_of s.now) x.separator) x.count x.number e in
+      let zero_out : out_of ns x (most_rounds - x.number) x.number ≡ 0 = ap (λ m. out_of ns x m x.number) n in
+      let same : count_of b + out_of ns x (most_rounds - x.number) x.number ≡ count_of b = omega (arith, zero_out) in
+      ap (λ o. put_and o (out_of ns x (most_rounds - x.number) x.number) b more) none ∙ ap faulty same
 
   -- the rounds after the next one
   abbrev pub after_next : Iterations → Iterations
@@ -241,16 +245,20 @@ module _ (mark : Span → Span) (bound : Map) where
   -- a repetition whose first round doesn't stand
   pub no-rounds : (ns : List ℕ) (body : Items) (sep : Option spec.Separator) (k : RepeatKind) (b : Building) (more : Building → Outcome) →
       stands_in mark bound ns body 0 ≡ false →
-      GoesOn (may_skip k) (put_and (repetition_gives mark bound ns body sep k) (repetition_puts_out mark bound ns body sep k) b more) (more b)
+      GoesOn (may_skip k) b (put_and (repetition_gives mark bound ns body sep k) (repetition_puts_out mark bound ns body sep k) b more) (more b)
   no-rounds ns body sep k b more e =
       go k (repetition_gives mark bound ns body sep k) (repetition_puts_out mark bound ns body sep k)
       (no-round (stands_in mark bound ns body) (λ r. gives mark bound (ns ++ (r ∷ [])) body) (λ r. puts_out mark bound (ns ++ (r ∷ [])) body)
       (separator_leaves sep) most_rounds k e)
+      (none-out (stands_in mark bound ns body) (λ r. gives mark bound (ns ++ (r ∷ [])) body) (λ r. puts_out mark bound (ns ++ (r ∷ [])) body)
+      (separator_leaves sep) most_rounds k e)
     where
-      go : (k : RepeatKind) (x : Option Forest) (n : ℕ) → x ≡ when_none k → GoesOn (may_skip k) (put_and x n b more) (more b)
-      go ZeroOrOne x n h = ap (λ o. put_and o n b more) h ∙ put-empty n b more
-      go ZeroOrMore x n h = ap (λ o. put_and o n b more) h ∙ put-empty n b more
-      go OneOrMore x n h = subst (λ o. IsFaulty (put_and o n b more)) (sym h) tt
+      go : (k : RepeatKind) (x : Option Forest) (n : ℕ) → x ≡ when_none k → n ≡ 0 → GoesOn (may_skip k) b (put_and x n b more) (more b)
+      go ZeroOrOne x n h z = ap (λ o. put_and o n b more) h ∙ put-empty n b more
+      go ZeroOrMore x n h z = ap (λ o. put_and o n b more) h ∙ put-empty n b more
+      go OneOrMore x n h z =
+          let same : count_of b + n ≡ count_of b = omega (arith, z) in
+          ap (λ o. put_and o n b more) h ∙ ap faulty same
 
   -- one whose first round stands
   pub rounds-begin : (ts : List TranscribeTask) (ns : List ℕ) (x : Iterations) (k : RepeatKind) (b : Building) → x.number ≡ 1 →
@@ -307,18 +315,18 @@ module _ (mark : Span → Span) (bound : Map) where
 -- ---- an item that holds no others
 
 pub plain-steps : (r : Result Bool TtFault) (old new : Building) (x : Option Forest) (n : ℕ) (more : Building → Outcome) → Fills r old new x →
-    Steps r (put_and x n old more) (more new)
-plain-steps (Err e) old new x n more h = tt
-plain-steps (Ok true) old new None n more h = absurd (cc h)
-plain-steps (Ok true) old new (Some f) n more h = ap more (sym (unsome h))
-plain-steps (Ok false) old new None n more h = tt
-plain-steps (Ok false) old new (Some f) n more h = absurd (cc h)
+    FailsAfter r old new n → Steps r new (put_and x n old more) (more new)
+plain-steps (Err e) old new x n more h k = tt
+plain-steps (Ok true) old new None n more h k = absurd (cc h)
+plain-steps (Ok true) old new (Some f) n more h k = ap more (sym (unsome h))
+plain-steps (Ok false) old new None n more h k = ap faulty (sym (k refl))
+plain-steps (Ok false) old new (Some f) n more h k = absurd (cc h)
 
 -- ---- the items that are left
 
 pub led : (mark : Span → Span) (bound : Map) (ts : List TranscribeTask) (ns ms : List ℕ) (ops left : Bor (List Op)) (old new : Building) (o : Option (Bor (List Op))) → ms ≡ ns →
     o ≡ Some left →
-    MatchOption o (IsFaulty (outcome mark bound (items_task ops ∷ ts) ms old))
+    MatchOption o (IsFaulty new (outcome mark bound (items_task ops ∷ ts) ms old))
     (λ l. outcome mark bound (items_task ops ∷ ts) ms old ≡ outcome mark bound (items_task l ∷ ts) ms new) →
     outcome mark bound (items_task ops ∷ ts) ns old ≡ outcome mark bound (items_task left ∷ ts) ns new
 led mark bound ts ns ms ops left old new None same e h = absurd (cc e)
@@ -326,13 +334,15 @@ led mark bound ts ns ms ops left old new (Some l) same e h =
     subst (λ ks. outcome mark bound (items_task ops ∷ ts) ks old ≡ outcome mark bound (items_task left ∷ ts) ks new) same
     (subst (λ k. outcome mark bound (items_task ops ∷ ts) ms old ≡ outcome mark bound (items_task k ∷ ts) ms new) (unsome e) h)
 
-pub left-inside : (o : Option (Bor (List Op))) (left : Bor (List Op)) → o ≡ Some left → IfSome o (λ l. is_plain (items_of l.now) ≡ false) → is_plain (items_of left.now) ≡ false
-left-inside None left e h = absurd (cc e)
-left-inside (Some l) left e h = subst (λ k. is_plain (items_of k.now) ≡ false) (unsome e) h
-
 pub left-fewer : (o : Option (Bor (List Op))) (left : Bor (List Op)) (n : ℕ) → o ≡ Some left → IfSome o (λ l. work_of (items_of l.now) ≤ n) → work_of (items_of left.now) ≤ n
 left-fewer None left n e h = absurd (cc e)
 left-fewer (Some l) left n e h = subst (λ k. work_of (items_of k.now) ≤ n) (unsome e) h
+
+-- some were put out, if one that holds no others is left
+pub left-stopped : (o : Option (Bor (List Op))) (left : Bor (List Op)) (n : ℕ) → o ≡ Some left →
+    IfSome o (λ l. is_plain (items_of l.now) ≡ true → work_of (items_of l.now) < n) → is_plain (items_of left.now) ≡ true → work_of (items_of left.now) < n
+left-stopped None left n e h = absurd (cc e)
+left-stopped (Some l) left n e h = subst (λ k. is_plain (items_of k.now) ≡ true → work_of (items_of k.now) < n) (unsome e) h
 
 -- ---- items that hold no others, before those that are left
 
@@ -344,29 +354,41 @@ plain-put _ rest = refl
 pub first-inside : (o : Op) (xs rest : List Op) → xs ≡ o ∷ rest → is_plain (put_op o done) ≡ is_plain (items_of xs)
 first-inside o xs rest e = sym (ap (λ l. is_plain (items_of l)) e ∙ plain-put o (items_of rest))
 
+unsaid : (b : Bool) → not b ≡ true → b ≡ false
+unsaid true h = sym h
+unsaid false h = refl
+
+said : (b : Bool) → not b ≡ false → b ≡ true
+said true h = refl
+said false h = sym h
+
 pub inside-left : (o : Op) (xs rest : List Op) (found : Bool) → xs ≡ o ∷ rest → found ≡ not (is_plain (put_op o done)) → found ≡ true → is_plain (items_of xs) ≡ false
 inside-left o xs rest found e is so = sym (first-inside o xs rest e) ∙ unsaid (is_plain (put_op o done)) (sym is ∙ so)
-  where
-    unsaid : (b : Bool) → not b ≡ true → b ≡ false
-    unsaid true h = sym h
-    unsaid false h = refl
+
+pub plain-left : (o : Op) (xs rest : List Op) (found : Bool) → xs ≡ o ∷ rest → found ≡ not (is_plain (put_op o done)) → found ≡ false → is_plain (items_of xs) ≡ true
+plain-left o xs rest found e is so = sym (first-inside o xs rest e) ∙ said (is_plain (put_op o done)) (sym is ∙ so)
 
 module _ (mark : Span → Span) (bound : Map) (ns : List ℕ) (ts : List TranscribeTask) (o : Op) (xs : List Op) (rest : Bor (List Op)) (is : xs ≡ o ∷ rest.now) (start : Outcome)
     (old : Building) (e : start ≡ items_and mark bound ns (items_of xs) old (outcome mark bound ts ns)) where
   lead-steps : (ok : Bool) (new : Building) → Fills (Ok ok) old new (first_gives mark bound ns (put_op o done)) →
-      GoesOn ok start (items_and mark bound ns (items_of rest.now) new (outcome mark bound ts ns))
-  lead-steps ok new h =
-      subst (λ t. GoesOn ok t (items_and mark bound ns (items_of rest.now) new (outcome mark bound ts ns)))
+      FailsAfter (Ok ok) old new (first_puts_out mark bound ns (put_op o done)) →
+      GoesOn ok new start (items_and mark bound ns (items_of rest.now) new (outcome mark bound ts ns))
+  lead-steps ok new h k =
+      subst (λ t. GoesOn ok new t (items_and mark bound ns (items_of rest.now) new (outcome mark bound ts ns)))
       (sym (e ∙ items-first mark bound ns o xs rest.now old (outcome mark bound ts ns) is))
       (plain-steps (Ok ok) old new (first_gives mark bound ns (put_op o done)) (first_puts_out mark bound ns (put_op o done))
-      (λ t. items_and mark bound ns (items_of rest.now) t (outcome mark bound ts ns)) h)
+      (λ t. items_and mark bound ns (items_of rest.now) t (outcome mark bound ts ns)) h k)
 
-  pub lead-put : (ok : Bool) (new : Building) → Fills (Ok ok) old new (first_gives mark bound ns (put_op o done)) → ok ≡ true →
+  pub lead-put : (ok : Bool) (new : Building) → Fills (Ok ok) old new (first_gives mark bound ns (put_op o done)) →
+      FailsAfter (Ok ok) old new (first_puts_out mark bound ns (put_op o done)) → ok ≡ true →
       start ≡ items_and mark bound ns (items_of rest.now) new (outcome mark bound ts ns)
-  lead-put ok new h f = subst (λ b. GoesOn b start (items_and mark bound ns (items_of rest.now) new (outcome mark bound ts ns))) f (lead-steps ok new h)
+  lead-put ok new h k f =
+      subst (λ b. GoesOn b new start (items_and mark bound ns (items_of rest.now) new (outcome mark bound ts ns))) f (lead-steps ok new h k)
 
-  pub lead-fault : (ok : Bool) (new : Building) → Fills (Ok ok) old new (first_gives mark bound ns (put_op o done)) → ok ≡ false → IsFaulty start
-  lead-fault ok new h f = subst (λ b. GoesOn b start (items_and mark bound ns (items_of rest.now) new (outcome mark bound ts ns))) f (lead-steps ok new h)
+  pub lead-fault : (ok : Bool) (new : Building) → Fills (Ok ok) old new (first_gives mark bound ns (put_op o done)) →
+      FailsAfter (Ok ok) old new (first_puts_out mark bound ns (put_op o done)) → ok ≡ false → IsFaulty new start
+  lead-fault ok new h k f =
+      subst (λ b. GoesOn b new start (items_and mark bound ns (items_of rest.now) new (outcome mark bound ts ns))) f (lead-steps ok new h k)
 
   pub lead-bursts : most_tokens < count_of old + first_puts_out mark bound ns (put_op o done) → most_tokens < reached start
   lead-bursts lacks =
@@ -378,9 +400,41 @@ module _ (mark : Span → Span) (bound : Map) (ns : List ℕ) (ts : List Transcr
 
 -- ---- all of a template
 
+-- all tokens in the end
+pub all-out : (old : Building) (x : Option Forest) (n : ℕ) → IsSized x n → reached (put_and x n old filled_up) ≡ count_of old + n
+all-out old None n s = refl
+all-out old (Some f) n s = omega (arith, s, count-extended old f)
+
 pub all-burst : (old : Building) (x : Option Forest) (n : ℕ) → IsSized x n → most_tokens < reached (put_and x n old filled_up) → most_tokens < count_of old + n
-all-burst old None n s h = h
-all-burst old (Some f) n s h = omega (arith, h, s, count-extended old f)
+all-burst old x n s h = subst (λ k. most_tokens < k) (all-out old x n s) h
+
+-- all was put out
+pub ends-whole : (old new : Building) (x : Option Forest) (n most : ℕ) → IsSized x n → put_and x n old filled_up ≡ filled_up new → count_of new ≤ most →
+    Ends Whole old new x n most
+ends-whole old new None n most s h fits = absurd (cc h)
+ends-whole old new (Some f) n most s h fits =
+    let is : extended old f ≡ new = cc h in
+    let many = ap count_of is in
+    (ap Some is, (omega (arith, s, count-extended old f, many), fits))
+
+-- there is a fault
+pub ends-faulty : (old new : Building) (x : Option Forest) (n most : ℕ) → put_and x n old filled_up ≡ faulty (count_of new) → count_of new ≤ most →
+    Ends Fault old new x n most
+ends-faulty old new (Some f) n most h fits = absurd (cc h)
+ends-faulty old new None n most h fits =
+    let is : count_of old + n ≡ count_of new = cc h in
+    (refl, (sym is, fits))
+
+-- what a transcription without a limit says
+pub filled-whole : (old new : Building) (o : Option Forest) (n most : ℕ) → Ends Whole old new o n most → Fills (Ok true) old new o
+filled-whole old new o n most h = sym h.0
+
+pub filled-fault : (old new : Building) (o : Option Forest) (n most : ℕ) → Ends Fault old new o n most → Fills (Ok false) old new o
+filled-fault old new o n most h = ap (option_map (extended old)) (sym h.0)
+
+-- more than `most` tokens are there on the way to this outcome
+pub ends-passed : (old : Building) (x : Option Forest) (n most k : ℕ) → IsSized x n → k ≤ reached (put_and x n old filled_up) → most < k → most < count_of old + n
+ends-passed old x n most k s h more = omega (arith, h, more, all-out old x n s)
 
 -- ---- how many tasks come of items
 
@@ -491,13 +545,13 @@ module _ (mark : Span → Span) (bound : Map) where
 
   pub none-steps : (ts : List TranscribeTask) (ns : List ℕ) (x : Iterations) (n : ℕ) (k : RepeatKind) (stood answered : Bool) (old : Building) →
       HasRounds mark bound ns (items_of x.body.now) n → stood ≡ nat_lt 0 n → stood ≡ false → answered ≡ may_skip k →
-      GoesOn answered
+      GoesOn answered old
       (put_and (repetition_gives mark bound ns (items_of x.body.now) (option_map (λ s. separator_of s.now) x.separator) k)
       (repetition_puts_out mark bound ns (items_of x.body.now) (option_map (λ s. separator_of s.now) x.separator) k) old (outcome mark bound ts ns))
       (outcome mark bound ts ns old)
   none-steps ts ns x n k stood answered old so_many is fails e =
       subst
-      (λ a. GoesOn a
+      (λ a. GoesOn a old
       (put_and (repetition_gives mark bound ns (items_of x.body.now) (option_map (λ s. separator_of s.now) x.separator) k)
       (repetition_puts_out mark bound ns (items_of x.body.now) (option_map (λ s. separator_of s.now) x.separator) k) old (outcome mark bound ts ns))
       (outcome mark bound ts ns old))
@@ -507,9 +561,10 @@ module _ (mark : Span → Span) (bound : Map) where
 
 -- ---- what is said otherwise
 
-pub same-steps : (r : Result Bool TtFault) (x y : Option Forest) (n m : ℕ) (b : Building) (more : Building → Outcome) (after : Outcome) → x ≡ y → n ≡ m →
-    Steps r (put_and x n b more) after → Steps r (put_and y m b more) after
-same-steps r x y n m b more after e f h = subst (λ k. Steps r (put_and y k b more) after) f (subst (λ o. Steps r (put_and o n b more) after) e h)
+pub same-steps : (r : Result Bool TtFault) (x y : Option Forest) (n m : ℕ) (b : Building) (more : Building → Outcome) (left : Building) (after : Outcome) → x ≡ y → n ≡ m →
+    Steps r left (put_and x n b more) after → Steps r left (put_and y m b more) after
+same-steps r x y n m b more left after e f h =
+    subst (λ k. Steps r left (put_and y k b more) after) f (subst (λ o. Steps r left (put_and o n b more) after) e h)
 
 pub same-bursts : (r : Result Bool TtFault) (x y : Option Forest) (n m : ℕ) (b : Building) (more : Building → Outcome) → x ≡ y → n ≡ m →
     IsBurstIn r (put_and x n b more) → IsBurstIn r (put_and y m b more)
@@ -564,3 +619,22 @@ module _ (mark : Span → Span) (bound : Map) where
   pub popped : (ts us : List TranscribeTask) (t : TranscribeTask) (ns : List ℕ) (b : Building) (o : Outcome) → ts ≡ us ++ (t ∷ []) → o ≡ outcome mark bound (reverse ts) ns b →
       o ≡ outcome mark bound (t ∷ reverse us) ns b
   popped ts us t ns b o e h = h ∙ ap (λ l. outcome mark bound l ns b) (ap reverse e ∙ on-top us t)
+
+  -- a step goes on from what was popped
+  pub stepped : (ts us : List TranscribeTask) (t : TranscribeTask) (ns : List ℕ) (b : Building) (start : Outcome) (whole : Bool) (left : Building) (after : Outcome) →
+      ts ≡ us ++ (t ∷ []) → start ≡ outcome mark bound (reverse ts) ns b → GoesOn whole left (outcome mark bound (t ∷ reverse us) ns b) after →
+      GoesOn whole left start after
+  stepped ts us t ns b start whole left after e h goes =
+      subst (λ o. GoesOn whole left o after) (sym (popped ts us t ns b start e h)) goes
+
+  -- no tokens are taken back
+  pub never-less : (whole : Bool) (left : Building) (start : Outcome) (ts : List TranscribeTask) (ns : List ℕ) → GoesOn whole left start (outcome mark bound ts ns left) →
+      count_of left ≤ reached start
+  never-less true left start ts ns h = let k = at-least mark bound ts ns left in let e = ap reached h in omega (arith, k, e)
+  never-less false left start ts ns h = let e = ap reached h in omega (arith, e)
+
+  pub step-done : (whole : Bool) (left : Building) (start after : Outcome) → whole ≡ true → GoesOn whole left start after → start ≡ after
+  step-done whole left start after is h = subst (λ b. GoesOn b left start after) is h
+
+  pub step-failed : (whole : Bool) (left : Building) (start after : Outcome) → whole ≡ false → GoesOn whole left start after → start ≡ faulty (count_of left)
+  step-failed whole left start after is h = subst (λ b. GoesOn b left start after) is h

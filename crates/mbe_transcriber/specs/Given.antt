@@ -1,5 +1,5 @@
 -- How transcription changes a tree under construction, op by op
-use Rattle.std.specs.Prelude.{◌≡◌, ◌<◌, ◌≤◌, ◌+◌, ℕ, suc, nat_lt, Bool, true, false, List, [], ◌∷◌, ◌++◌, Option, Some, None, option_map, Result, Err, IfOk}
+use Rattle.std.specs.Prelude.{◌≡◌, ◌<◌, ◌≤◌, ◌+◌, ℕ, suc, nat_lt, Bool, true, false, List, [], ◌∷◌, ◌++◌, Option, Some, None, option_map, Result, Ok, Err, IfOk}
 use Rattle.tt.specs.Building.{Building, extended, count_of, most_tokens}
 use Rattle.tt_data.specs.Forest.{Forest, empty, group, size}
 use Rattle.tt_data.specs.Spans.{delimiter_with}
@@ -15,6 +15,8 @@ use Rattle.mbe_transcriber.specs.Filling.{fragment_in, dollar_in, item_in, round
 use Rattle.mbe_transcriber.specs.Limits.{most_rounds}
 use Rattle.mbe_transcriber.specs.Markers.{is_name}
 use Rattle.mbe_transcriber.specs.Output.{output_in, output_from, output_of_rounds, size_of}
+use Rattle.mbe_transcriber.specs.declared.transcriber.Transcribed.{Transcribed}
+use Rattle.mbe_transcriber.specs.declared.transcriber.Transcribed.TheVariants.{Whole, Fault, Passed}
 
 -- a tree under construction after transcription; none after a fault
 abbrev pub ended : Bool → Building → Option Building
@@ -25,8 +27,28 @@ ended false b = None
 abbrev pub Fills : Result Bool TtFault → (old new : Building) → Option Forest → Type 0
 Fills r old new o = IfOk r (λ b. ended b new ≡ option_map (extended old) o)
 
+-- at a fault the tree is as it was
+abbrev pub KeepsAtFault : Result Bool TtFault → (old new : Building) → Type 0
+KeepsAtFault r old new = r ≡ Ok false → new ≡ old
+
+-- at a fault n tokens were put out
+abbrev pub FailsAfter : Result Bool TtFault → (old new : Building) → ℕ → Type 0
+FailsAfter r old new n = r ≡ Ok false → count_of new ≡ count_of old + n
+
+-- n tokens were put out, and the tree has at most `most`
+abbrev pub PutsOutWithin : (old new : Building) → (n most : ℕ) → Type 0
+PutsOutWithin old new n most = (count_of new ≡ count_of old + n) × (count_of new ≤ most)
+
+-- how a transcription ends that puts out n tokens, where a tree may have `most`: these trees are
+-- added, or there is a fault; or the tree would have more
+abbrev pub Ends : Transcribed → (old new : Building) → Option Forest → (n most : ℕ) → Type 0
+Ends Whole old new o n most =
+    (option_map (extended old) o ≡ Some new) × PutsOutWithin old new n most
+Ends Fault old new o n most = (o ≡ None) × PutsOutWithin old new n most
+Ends Passed old new o n most = most < count_of old + n
+
 -- it is refused for too many tokens only if so many more would be too many for a tree
-abbrev pub IsBurstBy : Result Bool TtFault → Building → ℕ → Type 0
+abbrev pub IsBurstBy : {A : Type 0} → Result A TtFault → Building → ℕ → Type 0
 IsBurstBy r b n = r ≡ Err Tokens → most_tokens < count_of b + n
 
 -- a repetition has at most one iteration
@@ -81,10 +103,12 @@ module _ (mark : Span → Span) (bound : Map) where
   abbrev pub HasRounds : List ℕ → Items → (count : ℕ) → Type 0
   HasRounds ns body count = (r : ℕ) → r ≤ most_rounds → nat_lt r count ≡ stands_in ns body r
 
-  -- so many iterations take place, and each gives its value of these
+  -- so many iterations take place, and each gives its value of these, and no token more
   abbrev pub HasValues : List ℕ → Items → Span → (count : ℕ) → Values → Type 0
   HasValues ns body place count vs =
-      HasRounds ns body count × ((r : ℕ) → gives (ns ++ (r ∷ [])) body ≡ fragment_in is_name most_rounds mark bound place (value_at r vs))
+      HasRounds ns body count
+      × ((r : ℕ) → (gives (ns ++ (r ∷ [])) body ≡ fragment_in is_name most_rounds mark bound place (value_at r vs))
+      × (puts_out (ns ++ (r ∷ [])) body ≡ size_of (fragment_in is_name most_rounds mark bound place (value_at r vs))))
 
   -- what a group gives
   abbrev pub group_gives : Delimiter → Option Forest → Option Forest

@@ -24,10 +24,9 @@ abbrev pub reached : Outcome → ℕ
 reached (filled_up b) = count_of b
 reached (faulty n) = n
 
--- a fault
-abbrev pub IsFaulty : Outcome → Type 0
-IsFaulty (filled_up b) = ⊥
-IsFaulty (faulty n) = Unit {0}
+-- a fault, before which this tree has all tokens
+abbrev pub IsFaulty : Building → Outcome → Type 0
+IsFaulty b o = o ≡ faulty (count_of b)
 
 -- these trees are added and `more` follows; if there is a fault, n tokens come before it
 abbrev pub put_and : Option Forest → ℕ → Building → (Building → Outcome) → Outcome
@@ -63,14 +62,15 @@ module _ (mark : Span → Span) (bound : Map) where
   outcome (Leave ∷ ts) ns b = outcome ts (around ns) b
   outcome (Later x ∷ ts) ns b = rounds_and (around ns) x b (outcome ts (around ns))
 
--- a step without a fault leaves the outcome as it was; a step with one had a fault as outcome
-abbrev pub GoesOn : Bool → (before after : Outcome) → Type 0
-GoesOn true before after = before ≡ after
-GoesOn false before after = IsFaulty before
+-- a step without a fault leaves the outcome as it was; a step with one, which left this tree, had
+-- that fault as outcome
+abbrev pub GoesOn : Bool → (left : Building) → (before after : Outcome) → Type 0
+GoesOn true left before after = before ≡ after
+GoesOn false left before after = IsFaulty left before
 
 -- a step does so unless it is refused
-abbrev pub Steps : Result Bool TtFault → (before after : Outcome) → Type 0
-Steps r before after = IfOk r (λ b. GoesOn b before after)
+abbrev pub Steps : Result Bool TtFault → (left : Building) → (before after : Outcome) → Type 0
+Steps r left before after = IfOk r (λ b. GoesOn b left before after)
 
 -- it is refused for too many tokens only if the outcome has more than a tree may have
 abbrev pub IsBurstIn : Result Bool TtFault → Outcome → Type 0

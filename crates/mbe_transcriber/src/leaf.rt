@@ -10,7 +10,8 @@ ghost use Rattle.mbe_rules.specs.Ops.{put_op, separator_of};
 ghost use Rattle.mbe_rules.specs.Relabelling.{punct_with};
 ghost use Rattle.mbe_matcher.specs.Bound.{map_of};
 ghost use Rattle.mbe_transcriber.specs.Filling.{punct_leaves, separator_leaves};
-ghost use Rattle.mbe_transcriber.specs.Given.{Fills, IsBurstBy, dollar_gives, dollar_place};
+ghost use Rattle.mbe_transcriber.specs.Given.{FailsAfter, Fills, IsBurstBy, KeepsAtFault};
+ghost use Rattle.mbe_transcriber.specs.Given.{dollar_gives, dollar_place};
 ghost use Rattle.mbe_transcriber.specs.Given.{first_gives, first_puts_out, is_plain, plain_gives};
 ghost use Rattle.mbe_transcriber.specs.Markers.{IsMarkedBy};
 ghost use Rattle.mbe_transcriber.specs.Output.{size_of};
@@ -171,6 +172,7 @@ fn put_dollar(
     ensures tokens { (mark : Span → Span) →
         IsBurstBy result out.old.tree (size_of (dollar_gives mark (map_of bindings.now) rounds.now
         (put_op op.now done) span)) }
+    ensures same { KeepsAtFault result out.old.tree out.new.tree }
 {
     let alloc = bindings.allocator();
     match op {
@@ -215,6 +217,8 @@ fn put_item<M: Fn(Span) -> Span>(
     ensures tokens { (mark : Span → Span) → IsMarkedBy (M.post marker.now) mark →
         IsBurstBy result out.old.tree (size_of (plain_gives mark (map_of bindings.now) rounds.now
         (put_op op.now done))) }
+    ensures same { (mark : Span → Span) → IsMarkedBy (M.post marker.now) mark →
+        KeepsAtFault result out.old.tree out.new.tree }
 {
     if let Some(place) = dollar_place(op) {
         return put_dollar(out, op, bindings, rounds, marked(marker, place));
@@ -245,6 +249,9 @@ pub(crate) fn put_plain<M: Fn(Span) -> Span>(
     ensures tokens { (mark : Span → Span) → IsMarkedBy (M.post marker.now) mark →
         IsBurstBy result out.old.tree (first_puts_out mark (map_of bindings.now) rounds.now
         (put_op op.now done)) }
+    ensures fails { (mark : Span → Span) → IsMarkedBy (M.post marker.now) mark →
+        FailsAfter result out.old.tree out.new.tree
+        (first_puts_out mark (map_of bindings.now) rounds.now (put_op op.now done)) }
 {
     put_item(out, op, bindings, marker, rounds)
 }

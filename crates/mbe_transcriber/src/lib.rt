@@ -13,4 +13,4 @@ mod transcriber;
 pub use fragment::put_in;
 pub use items::PlainItems;
 pub use metavar_expr::rawness_of;
-pub use transcriber::fill;
+pub use transcriber::{Transcribed, fill, fill_within};

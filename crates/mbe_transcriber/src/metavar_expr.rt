@@ -19,7 +19,7 @@ ghost use Rattle.mbe_transcriber.specs.Filling.{ignored, integer, joined_text, n
 ghost use Rattle.mbe_transcriber.specs.Filling.{rawness_of, reserved_words, text_in, text_of_value};
 ghost use Rattle.mbe_transcriber.specs.Filling.{unbound, value_in, variable_in};
 ghost use Rattle.mbe_transcriber.specs.Limits.{most_rounds};
-ghost use Rattle.mbe_transcriber.specs.Given.{Fills, IsBurstBy};
+ghost use Rattle.mbe_transcriber.specs.Given.{Fills, IsBurstBy, KeepsAtFault};
 ghost use Rattle.mbe_transcriber.specs.Markers.{is_name};
 ghost use Rattle.mbe_transcriber.specs.Output.{size_of};
 ghost use Rattle.mbe_transcriber.specs.Room.{IsWantOfRoom};
@@ -109,6 +109,7 @@ pub(crate) fn put_value(
     ensures tokens { (mark : Span → Span) (bound : Map) →
         IsBurstBy result out.old.tree (size_of (fragment_in is_name most_rounds mark bound span
         (option_map (λ b. standing_for b.now) value.entry))) }
+    ensures same { KeepsAtFault result out.old.tree out.new.tree }
 {
     match value {
         Some(Binding::Fragment { kind, trees }) => put_fragment(out, *kind, *trees, span),
@@ -131,6 +132,7 @@ pub(crate) fn put_variable(
     ensures tokens { (mark : Span → Span) → IsBurstBy result out.old.tree
         (size_of (variable_in is_name most_rounds mark (map_of bindings.now) rounds.now name.now
         span (binding_of name.now (map_of bindings.now)))) }
+    ensures same { KeepsAtFault result out.old.tree out.new.tree }
 {
     match bindings.get(name) {
         Some(binding) => put_value(out, value_in(binding, rounds), span),
@@ -254,6 +256,7 @@ pub(crate) fn put_count(
     ensures tokens { IsBurstBy result out.old.tree
         (size_of (option_map (λ b. integer (count_in depth b) span)
         (option_and_then (value_in rounds.now) (binding_of name.now (map_of bindings.now))))) }
+    ensures same { KeepsAtFault result out.old.tree out.new.tree }
 {
     match value_here(name, bindings, rounds) {
         Some(binding) => {
@@ -408,6 +411,7 @@ fn put_name(
     ensures tokens { (mark : Span → Span) (bound : Map) →
         IsBurstBy result out.old.tree (size_of (identifier is_name most_rounds mark bound span
         text.now)) }
+    ensures same { KeepsAtFault result out.old.tree out.new.tree }
 {
     if !is_ident(text) {
         return Ok(false);
@@ -432,6 +436,7 @@ pub(crate) fn put_concat(
     ensures tokens { (mark : Span → Span) → IsBurstBy result out.old.tree
         (size_of (dollar_in is_name most_rounds mark (map_of bindings.now) rounds.now
         (items.concat_of (map part_of parts.now)) span)) }
+    ensures same { KeepsAtFault result out.old.tree out.new.tree }
 {
     match joined_text(parts, bindings, rounds)? {
         Some(text) => put_name(bindings.allocator(), out, &text, span),

@@ -56,7 +56,8 @@ fn put_later(
     ensures left { (mark : Span → Span) (bound : Map) (ns : List ℕ) (ts : List TranscribeTask) →
         HasValues mark bound ns (items_of left.entry.body.now) place left.entry.count
         (values_of values.now) →
-        Steps result (rounds_and mark bound ns left.entry out.old.tree (outcome mark bound ts ns))
+        Steps result out.new.tree
+        (rounds_and mark bound ns left.entry out.old.tree (outcome mark bound ts ns))
         (outcome mark bound ts ns out.new.tree) }
     ensures tokens { (mark : Span → Span) (bound : Map) (ns : List ℕ) (ts : List TranscribeTask) →
         HasValues mark bound ns (items_of left.entry.body.now) place left.entry.count
@@ -92,7 +93,7 @@ pub(crate) fn put_values(
     ensures left { (mark : Span → Span) (bound : Map) (ns : List ℕ) (ts : List TranscribeTask) →
         HasValues mark bound ns (items_of later.entry.body.now) place later.entry.count
         (values_of values.now) →
-        Steps result
+        Steps result out.new.tree
         (put_and (repetition_gives mark bound ns (items_of later.entry.body.now)
         (option_map (λ s. separator_of s.now) later.entry.separator) kind)
         (repetition_puts_out mark bound ns (items_of later.entry.body.now)

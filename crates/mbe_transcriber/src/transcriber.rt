@@ -1,6 +1,7 @@
 //! Transcribes with bindings. The tasks that are left are on a stack in memory, so that nesting
 //! is limited by memory alone.
-ghost use Rattle.std.specs.Prelude.{◌≡◌, ◌<◌, ◌≤◌, ◌+◌, ◌*◌, ◌∷◌, ◌++◌, [], List, false, not, suc};
+ghost use Rattle.std.specs.Prelude.{◌≡◌, ◌<◌, ◌≤◌, ◌+◌, ◌*◌, ◌∷◌, ◌++◌, [], List, true, false};
+ghost use Rattle.std.specs.Prelude.{not, suc};
 ghost use Rattle.std.specs.Prelude.{reverse, option_map, if◌then◌else◌, Err, IfErr, IfOk, IfSome};
 ghost use Rattle.std.specs.Prelude.{MatchOption, OnOk};
 ghost use Rattle.tt_data.specs.declared.span.Span.{Span};
@@ -12,7 +13,8 @@ ghost use Rattle.mbe_matcher.specs.Bindings.{Map};
 ghost use Rattle.mbe_matcher.specs.Bound.{map_of};
 ghost use Rattle.mbe_transcriber.specs.Filling.{filled};
 ghost use Rattle.mbe_transcriber.specs.Limits.{most_rounds};
-ghost use Rattle.mbe_transcriber.specs.Given.{Fills, IsBurstBy, is_plain, is_single, first_gives};
+ghost use Rattle.mbe_transcriber.specs.Given.{Ends, Fills, IsBurstBy, is_plain, is_single};
+ghost use Rattle.mbe_transcriber.specs.Given.{first_gives};
 ghost use Rattle.mbe_transcriber.specs.Given.{first_puts_out, group_gives, gives, puts_out};
 ghost use Rattle.mbe_transcriber.specs.Given.{repetition_gives, repetition_puts_out};
 ghost use Rattle.mbe_transcriber.specs.Markers.{IsMarkedBy, is_name};
@@ -67,24 +69,26 @@ fn has_ops(op: &Op) -> bool
     matches!(op, Op::Subtree { .. } | Op::Repeat { .. })
 }
 
-// Transcribes ops up to the first with ops inside, and answers those that are left. `Ok(None)` is
-// a fault.
+// Transcribes ops up to the first with ops inside, or until the tree has more than `most` tokens,
+// and answers those that are left. `Ok(None)` is a fault.
 fn put_leading<'t, M: Fn(Span) -> Span>(
     out: &mut TopSubtreeBuilder,
     ops: &'t [Op],
     bindings: &Bindings<'_>,
     marker: &M,
     rounds: &[usize],
+    most: usize,
 ) -> Result<Option<&'t [Op]>, TtFault>
     requires { M.IsAlwaysCallable marker.now }
     ensures faults { IfErr result IsWantOfRoom }
     ensures left { (mark : Span → Span) (ts : List TranscribeTask) →
         IsMarkedBy (M.post marker.now) mark → IfOk result (λ o.
-        MatchOption o (IsFaulty (outcome mark (map_of bindings.now) (Items ops.entry ∷ ts)
-        rounds.now out.old.tree))
+        MatchOption o (IsFaulty out.new.tree (outcome mark (map_of bindings.now)
+        (Items ops.entry ∷ ts) rounds.now out.old.tree))
         (λ l. outcome mark (map_of bindings.now) (Items ops.entry ∷ ts) rounds.now out.old.tree
         ≡ outcome mark (map_of bindings.now) (Items l ∷ ts) rounds.now out.new.tree)) }
-    ensures inside { IfOk result (λ o. IfSome o (λ l. is_plain (items_of l.now) ≡ false)) }
+    ensures stopped { IfOk result (λ o. IfSome o (λ l. is_plain (items_of l.now) ≡ true →
+        work_of (items_of l.now) < work_of (items_of ops.now))) }
     ensures tokens { (mark : Span → Span) (ts : List TranscribeTask) →
         IsMarkedBy (M.post marker.now) mark → result ≡ Err Tokens →
         most_tokens < reached (outcome mark (map_of bindings.now) (Items ops.entry ∷ ts) rounds.now
@@ -101,6 +105,9 @@ fn put_leading<'t, M: Fn(Span) -> Span>(
             return Ok(None);
         }
         left = rest;
+        if out.len() > most {
+            return Ok(Some(left));
+        }
     }
     Ok(Some(left))
 }
@@ -188,7 +195,7 @@ impl<'t> Transcription<'t> {
         requires { M.IsAlwaysCallable marker.now }
         ensures faults { IfErr result IsWantOfRoom }
         ensures left { (mark : Span → Span) (bound : Map) → IsMarkedBy (M.post marker.now) mark →
-            Steps result
+            Steps result out.new.tree
             (put_and (group_gives mark bound delimiter (gives mark bound self.old.rounds.items
             (items_of inner.now)))
             (suc (puts_out mark bound self.old.rounds.items (items_of inner.now))) out.old.tree
@@ -220,7 +227,8 @@ impl<'t> Transcription<'t> {
         requires marker { M.IsAlwaysCallable marker.now }
         requires number { later.number ≡ 1 }
         ensures faults { IfErr result IsWantOfRoom }
-        ensures left { (mark : Span → Span) → IsMarkedBy (M.post marker.now) mark → Steps result
+        ensures left { (mark : Span → Span) → IsMarkedBy (M.post marker.now) mark →
+            Steps result out.new.tree
             (put_and (repetition_gives mark (map_of bindings.now) self.old.rounds.items
             (items_of later.entry.body.now) (option_map (λ s. separator_of s.now)
             later.entry.separator) kind)
@@ -270,7 +278,8 @@ impl<'t> Transcription<'t> {
         requires marker { M.IsAlwaysCallable marker.now }
         requires inside { is_plain (put_op op.now done) ≡ false }
         ensures faults { IfErr result IsWantOfRoom }
-        ensures left { (mark : Span → Span) → IsMarkedBy (M.post marker.now) mark → Steps result
+        ensures left { (mark : Span → Span) → IsMarkedBy (M.post marker.now) mark →
+            Steps result out.new.tree
             (put_and (first_gives mark (map_of bindings.now) self.old.rounds.items
             (put_op op.now done))
             (first_puts_out mark (map_of bindings.now) self.old.rounds.items (put_op op.now done))
@@ -309,17 +318,20 @@ impl<'t> Transcription<'t> {
         }
     }
 
-    // Transcribes ops up to the first with ops inside, and begins that one.
+    // Transcribes ops up to the first with ops inside, and begins that one; or until the tree has
+    // more than `most` tokens.
     fn put_items<M: Fn(Span) -> Span>(
         &mut self,
         out: &mut TopSubtreeBuilder,
         ops: &'t [Op],
         bindings: &Bindings<'_>,
         marker: &M,
+        most: usize,
     ) -> Result<bool, TtFault>
         requires { M.IsAlwaysCallable marker.now }
         ensures faults { IfErr result IsWantOfRoom }
-        ensures left { (mark : Span → Span) → IsMarkedBy (M.post marker.now) mark → Steps result
+        ensures left { (mark : Span → Span) → IsMarkedBy (M.post marker.now) mark →
+            Steps result out.new.tree
             (outcome mark (map_of bindings.now) (Items ops.entry ∷ reverse self.old.tasks.items)
             self.old.rounds.items out.old.tree)
             (outcome mark (map_of bindings.now) (reverse self.new.tasks.items) self.new.rounds.items
@@ -331,12 +343,16 @@ impl<'t> Transcription<'t> {
         ensures fewer { OnOk result (tasks_of_all self.new.tasks.items
             ≤ tasks_of_all self.old.tasks.items + work_of (items_of ops.now)) }
     {
-        let Some(left) = put_leading(out, ops, bindings, marker, &self.rounds)? else {
+        let Some(left) = put_leading(out, ops, bindings, marker, &self.rounds, most)? else {
             return Ok(false);
         };
         let Some((first, rest)) = left.split_first() else {
             return Ok(true);
         };
+        if !has_ops(first) {
+            self.plan(TranscribeTask::Items(left))?;
+            return Ok(true);
+        }
         self.plan_rest(rest)?;
         self.enter(out, first, bindings, marker)
     }
@@ -351,7 +367,8 @@ impl<'t> Transcription<'t> {
     ) -> Result<bool, TtFault>
         requires { M.IsAlwaysCallable marker.now }
         ensures faults { IfErr result IsWantOfRoom }
-        ensures left { (mark : Span → Span) → IsMarkedBy (M.post marker.now) mark → Steps result
+        ensures left { (mark : Span → Span) → IsMarkedBy (M.post marker.now) mark →
+            Steps result out.new.tree
             (outcome mark (map_of bindings.now) (Later left.entry ∷ reverse self.old.tasks.items)
             self.old.rounds.items out.old.tree)
             (outcome mark (map_of bindings.now) (reverse self.new.tasks.items) self.new.rounds.items
@@ -387,17 +404,20 @@ impl<'t> Transcription<'t> {
         Ok(true)
     }
 
-    // Does a task. `Ok(false)` is a fault.
+    // Does a task, or its part up to where the tree has more than `most` tokens. `Ok(false)` is a
+    // fault.
     fn step<M: Fn(Span) -> Span>(
         &mut self,
         out: &mut TopSubtreeBuilder,
         task: TranscribeTask<'t>,
         bindings: &Bindings<'_>,
         marker: &M,
+        most: usize,
     ) -> Result<bool, TtFault>
         requires { M.IsAlwaysCallable marker.now }
         ensures faults { IfErr result IsWantOfRoom }
-        ensures left { (mark : Span → Span) → IsMarkedBy (M.post marker.now) mark → Steps result
+        ensures left { (mark : Span → Span) → IsMarkedBy (M.post marker.now) mark →
+            Steps result out.new.tree
             (outcome mark (map_of bindings.now) (task.entry ∷ reverse self.old.tasks.items)
             self.old.rounds.items out.old.tree)
             (outcome mark (map_of bindings.now) (reverse self.new.tasks.items) self.new.rounds.items
@@ -410,7 +430,7 @@ impl<'t> Transcription<'t> {
             < tasks_of_all self.old.tasks.items + tasks_of task.entry) }
     {
         match task {
-            TranscribeTask::Items(ops) => self.put_items(out, ops, bindings, marker),
+            TranscribeTask::Items(ops) => self.put_items(out, ops, bindings, marker, most),
             TranscribeTask::Close(span) => {
                 let closed = out.close(marked(marker, span));
                 Ok(closed.is_ok())
@@ -424,16 +444,65 @@ impl<'t> Transcription<'t> {
     }
 }
 
-/// Transcribes `template` with bindings: appends what it gives to `out`. `false` means a fault;
-/// what was appended before it stays. (The Rust Reference, "Macros By Example": transcribing.)
+/// How a transcription ended.
+#[derive(Clone, Copy)]
+pub enum Transcribed {
+    /// What the template gives is appended.
+    Whole,
+    /// The template has a fault.
+    Fault,
+    /// The tree would have more tokens than it may.
+    Passed,
+}
+
+/// Transcribes `template` with bindings: appends what it gives to `out`, until a fault or until
+/// `out` has more than `most` tokens. What was appended before that stays. (The Rust Reference,
+/// "Macros By Example": transcribing.)
 ///
 /// Tokens of the transcriber get the span that `marker` answers for theirs, those of a fragment
-/// keep theirs.
+/// keep theirs. The tree is looked at after each op, so that it never has more than `most` tokens
+/// and what one op gives.
 ///
 /// # Errors
 ///
 /// `Memory`, or `Tokens` if the tree would have more than `u32::MAX` tokens. What the transcriber
 /// puts out up to its first fault counts.
+pub fn fill_within<M: Fn(Span) -> Span>(
+    out: &mut TopSubtreeBuilder,
+    template: &[Op],
+    bindings: &Bindings<'_>,
+    marker: &M,
+    most: usize,
+) -> Result<Transcribed, TtFault>
+    requires { M.IsAlwaysCallable marker.now }
+    ensures faults { IfErr result IsWantOfRoom }
+    ensures ends { (mark : Span → Span) → IsMarkedBy (M.post marker.now) mark →
+        IfOk result (λ t. Ends t out.old.tree out.new.tree
+        (filled is_name most_rounds mark (map_of bindings.now) (items_of template.now))
+        (output is_name most_rounds mark (map_of bindings.now) (items_of template.now)) most) }
+    ensures tokens { (mark : Span → Span) → IsMarkedBy (M.post marker.now) mark →
+        IsBurstBy result out.old.tree (output is_name most_rounds mark (map_of bindings.now)
+        (items_of template.now)) }
+{
+    let mut left = Transcription::new(bindings.allocator())?;
+    left.plan(TranscribeTask::Items(template))?;
+    while let Some(task) = left.tasks.pop() {
+        let whole = left.step(out, task, bindings, marker, most)?;
+        if out.len() > most {
+            return Ok(Transcribed::Passed);
+        }
+        if !whole {
+            return Ok(Transcribed::Fault);
+        }
+    }
+    Ok(Transcribed::Whole)
+}
+
+/// The same without a limit of its own. `false` means a fault.
+///
+/// # Errors
+///
+/// As `fill_within`.
 pub fn fill<M: Fn(Span) -> Span>(
     out: &mut TopSubtreeBuilder,
     template: &[Op],
@@ -449,12 +518,10 @@ pub fn fill<M: Fn(Span) -> Span>(
         IsBurstBy result out.old.tree (output is_name most_rounds mark (map_of bindings.now)
         (items_of template.now)) }
 {
-    let mut left = Transcription::new(bindings.allocator())?;
-    left.plan(TranscribeTask::Items(template))?;
-    while let Some(task) = left.tasks.pop() {
-        if !left.step(out, task, bindings, marker)? {
-            return Ok(false);
-        }
+    match fill_within(out, template, bindings, marker, usize::MAX)? {
+        Transcribed::Whole => Ok(true),
+        Transcribed::Fault => Ok(false),
+        // More tokens than a number counts are too many for a tree.
+        Transcribed::Passed => Err(TtFault::Tokens),
     }
-    Ok(true)
 }

@@ -5,6 +5,7 @@ use Rattle.mbe_transcriber.specs.Limits.{most_rounds}
 use Rattle.mbe_transcriber.specs.Given.{Fills, IsBurstBy}
 use Rattle.mbe_transcriber.specs.Markers.{is_name}
 use Rattle.mbe_transcriber.specs.Output.{size_of}
+use Rattle.mbe_transcriber.proofs.LoneLemmas.{never-fails}
 use Rattle.mbe_transcriber.proofs.metavar_expr.put_variable.Goals as goal
 
 pub returns-in-Some-clause-filled : goal.returns-in-Some-clause-filled
@@ -28,3 +29,8 @@ returns-in-None-clause-filled c = λ mark.
     let map = map_of c.args.bindings.now in
     subst (λ o. Fills c.put_unbound.result c.args.out.now.tree c.put_unbound.new.out.tree (variable_in is_name most_rounds mark map c.args.rounds.now c.args.name.now c.args.span o))
     c.in-None.ensures (c.put_unbound.ensures.filled mark map)
+
+pub returns-in-None-clause-same : goal.returns-in-None-clause-same
+returns-in-None-clause-same c =
+    never-fails c.put_unbound.result c.args.out.now.tree c.put_unbound.new.out.tree c.args.out.now.tree c.put_unbound.new.out.tree _
+    (c.put_unbound.ensures.filled (λ s. s) (map_of c.args.bindings.now))

@@ -27,14 +27,14 @@ returns-then-not-branch-clause-left c = λ mark bound ns ts all.
     value-fault mark bound ns ts (record c.args.left { number = c.loop-place.number }) c.args.place (values_of c.args.values.now) all _ c.loop-place.out.tree
     (c.loop-place.invariant mark bound ns ts all) _ c.loop-place-test.ensures refl (omega (arith, c.if-number-ge-MOST_ROUNDS.false))
     c.put_separator.new.out.tree c.in_ok-put_separator.ensures.added _ c.member.ensures c.in_ok-put_value.field-0 c.put_value.new.out.tree
-    (c.in_ok-put_value.ensures.filled mark bound) c.if-not-branch.true
+    (c.in_ok-put_value.ensures.filled mark bound) c.in_ok-put_value.ensures.same c.if-not-branch.true
 
 pub loop-place-preserved : goal.loop-place-preserved
 loop-place-preserved c = λ mark bound ns ts all.
     value-put mark bound ns ts (record c.args.left { number = c.loop-place.number }) c.args.place (values_of c.args.values.now) all _ c.loop-place.out.tree
     (c.loop-place.invariant mark bound ns ts all) _ c.loop-place-test.ensures refl (omega (arith, c.if-number-ge-MOST_ROUNDS.false))
     c.put_separator.new.out.tree c.in_ok-put_separator.ensures.added _ c.member.ensures c.in_ok-put_value.field-0 c.put_value.new.out.tree
-    (c.in_ok-put_value.ensures.filled mark bound) c.if-not-branch.false
+    (c.in_ok-put_value.ensures.filled mark bound) c.in_ok-put_value.ensures.same c.if-not-branch.false
 
 pub returns-clause-left : goal.returns-clause-left
 returns-clause-left c = λ mark bound ns ts all.

@@ -20,22 +20,22 @@ returns-in_err-put_value-clause-tokens c = λ mark bound ns ts all e.
 pub returns-then-not-branch-clause-left : goal.returns-then-not-branch-clause-left
 returns-then-not-branch-clause-left c = λ mark bound ns ts all.
     first-fault mark bound ns ts c.args.later c.requires c.args.kind c.args.place (values_of c.args.values.now) all c.args.out.now.tree c.takes_place.result
-    c.takes_place.ensures c.if-not-takes_place.false _ c.member.ensures c.in_ok-put_value.field-0 c.put_value.new.out.tree (c.in_ok-put_value.ensures.filled mark bound)
+    c.takes_place.ensures c.if-not-takes_place.false _ c.member.ensures c.in_ok-put_value.field-0 c.put_value.new.out.tree (c.in_ok-put_value.ensures.filled mark bound) c.in_ok-put_value.ensures.same
     c.if-not-branch.true
 
 pub returns-then-is_single-clause-left : goal.returns-then-is_single-clause-left
 returns-then-is_single-clause-left c = λ mark bound ns ts all.
     only-put mark bound ns ts c.args.later c.requires c.args.kind c.args.place (values_of c.args.values.now) all c.args.out.now.tree c.takes_place.result
     c.takes_place.ensures c.if-not-takes_place.false _ c.member.ensures c.in_ok-put_value.field-0 c.is_single.result c.put_value.new.out.tree
-    (c.in_ok-put_value.ensures.filled mark bound) c.if-not-branch.false c.is_single.ensures c.if-is_single.true
+    (c.in_ok-put_value.ensures.filled mark bound) c.in_ok-put_value.ensures.same c.if-not-branch.false c.is_single.ensures c.if-is_single.true
 
 pub returns-clause-left : goal.returns-clause-left
 returns-clause-left c = λ mark bound ns ts all.
-    subst (λ o. Steps c.put_later.result o (outcome mark bound ts ns c.put_later.new.out.tree))
+    subst (λ o. Steps c.put_later.result c.put_later.new.out.tree o (outcome mark bound ts ns c.put_later.new.out.tree))
     (sym
     (more-put mark bound ns ts c.args.later c.requires c.args.kind c.args.place (values_of c.args.values.now) all c.args.out.now.tree c.takes_place.result
     c.takes_place.ensures c.if-not-takes_place.false _ c.member.ensures c.in_ok-put_value.field-0 c.is_single.result c.put_value.new.out.tree
-    (c.in_ok-put_value.ensures.filled mark bound) c.if-not-branch.false c.is_single.ensures c.if-is_single.false))
+    (c.in_ok-put_value.ensures.filled mark bound) c.in_ok-put_value.ensures.same c.if-not-branch.false c.is_single.ensures c.if-is_single.false))
     (c.put_later.ensures.left mark bound ns ts all)
 
 pub returns-clause-tokens : goal.returns-clause-tokens
@@ -44,5 +44,5 @@ returns-clause-tokens c = λ mark bound ns ts all.
     (sym
     (more-put mark bound ns ts c.args.later c.requires c.args.kind c.args.place (values_of c.args.values.now) all c.args.out.now.tree c.takes_place.result
     c.takes_place.ensures c.if-not-takes_place.false _ c.member.ensures c.in_ok-put_value.field-0 c.is_single.result c.put_value.new.out.tree
-    (c.in_ok-put_value.ensures.filled mark bound) c.if-not-branch.false c.is_single.ensures c.if-is_single.false))
+    (c.in_ok-put_value.ensures.filled mark bound) c.in_ok-put_value.ensures.same c.if-not-branch.false c.is_single.ensures c.if-is_single.false))
     (c.put_later.ensures.tokens mark bound ns ts all)

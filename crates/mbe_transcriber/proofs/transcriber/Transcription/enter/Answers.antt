@@ -9,7 +9,7 @@ use Rattle.mbe_transcriber.proofs.transcriber.Transcription.enter.Goals as goal
 
 pub returns-in-Subtree-clause-left : goal.returns-in-Subtree-clause-left
 returns-in-Subtree-clause-left g c = λ mark is.
-    same-steps c.enter_group.result _ _ _ _ c.args.out.now.tree _ _
+    same-steps c.enter_group.result _ _ _ _ c.args.out.now.tree _ _ _
     (sub-gives mark (map_of c.args.bindings.now) c.args.self.now.rounds.items c.in-Subtree.tokens c.in-Subtree.delimiter c.args.op.now c.deref.result.now
     c.in-Subtree.is c.deref.ensures.value)
     (sub-puts mark (map_of c.args.bindings.now) c.args.self.now.rounds.items c.in-Subtree.tokens c.in-Subtree.delimiter c.args.op.now c.deref.result.now
@@ -33,7 +33,7 @@ returns-in-Subtree-clause-fewer g c =
 
 pub returns-in-Repeat-clause-left : goal.returns-in-Repeat-clause-left
 returns-in-Repeat-clause-left g c = λ mark is.
-    same-steps c.enter_rounds.result _ _ _ _ c.args.out.now.tree _ _
+    same-steps c.enter_rounds.result _ _ _ _ c.args.out.now.tree _ _ _
     (rep-gives mark (map_of c.args.bindings.now) c.args.self.now.rounds.items c.in-Repeat.tokens c.in-Repeat.separator c.in-Repeat.kind c.args.op.now
     c.deref-in-Repeat.result.now (option_map (λ s. separator_of s.now) c.as_ref.result) c.in-Repeat.is c.deref-in-Repeat.ensures.value
     (as-ref c.as_ref.result c.in-Repeat.separator c.as_ref.ensures.value))

@@ -1,7 +1,8 @@
-use Rattle.std.proofs.Common.{◌∙◌, ap, refl, ◌∷◌, [], ◌++◌, reverse, arith}
+use Rattle.std.proofs.Common.{◌∙◌, ap, refl, sym, ◌∷◌, [], ◌++◌, reverse, arith}
 use Rattle.mbe_matcher.specs.Bound.{map_of}
+use Rattle.mbe_transcriber.specs.Tasks.{around}
 use Rattle.mbe_transcriber.specs.declared.transcriber.TranscribeTask.TheVariants.{Later}
-use Rattle.mbe_transcriber.proofs.FillTaskLemmas.{after_next, next-ended, next-bursts, next-steps}
+use Rattle.mbe_transcriber.proofs.FillTaskLemmas.{after_next, next-ended, next-bursts, next-steps, too-many}
 use Rattle.mbe_transcriber.proofs.PuttingLemmas.{handed}
 use Rattle.mbe_transcriber.proofs.transcriber.Transcription.next_round.Goals as goal
 
@@ -10,6 +11,11 @@ returns-then-not-takes_place-clause-left g c = λ mark is.
     next-ended mark (map_of c.args.bindings.now) c.args.self.now.tasks.items c.leave.new.self.tasks.items c.args.self.now.rounds.items
     c.leave.new.self.rounds.items c.args.left c.takes_place.result c.args.out.now.tree c.leave.ensures.rounds
     c.takes_place.ensures c.if-not-takes_place.true c.leave.ensures.tasks
+
+pub returns-then-number-ge-MOST_ROUNDS-clause-left : goal.returns-then-number-ge-MOST_ROUNDS-clause-left
+returns-then-number-ge-MOST_ROUNDS-clause-left g c = λ mark is.
+    too-many mark (map_of c.args.bindings.now) (around c.args.self.now.rounds.items) c.args.left c.args.out.now.tree _
+    (sym c.takes_place.ensures ∙ c.if-not-takes_place.false) (omega (arith, c.if-number-ge-MOST_ROUNDS.true))
 
 pub returns-in_err-put_separator-clause-tokens : goal.returns-in_err-put_separator-clause-tokens
 returns-in_err-put_separator-clause-tokens g c = λ mark is e.
