@@ -1,13 +1,13 @@
 //! Does a job on files of a crate.
 
-use crate::conditions::cfg_of;
+use crate::conditions::{cfg_of, under};
 use crate::job::{Action, Job};
 use crate::layout::{Run, laid_out, run_in_memory};
 use crate::warnings::warn;
 use any_grammar::AnyGrammar;
 use cfg_options::CfgOptions;
 use crate_walk::Content;
-use expander::{Dialect, Options, Prelude, Watched};
+use expander::{Options, Prelude, Watched};
 use expander_run::program::put;
 use program_files::{
     Chosen, Disk, Ended, Whole, chosen_files, code_in, fault_words, listed, misused, opened,
@@ -29,19 +29,7 @@ fn set_of(rt: &HostRuntime, job: &Job<'_>) -> Result<CfgOptions, Ended> {
 // The options of a job, for one more text.
 fn options_of(rt: &HostRuntime, job: &Job<'_>) -> Result<Options<AnyGrammar>, Ended> {
     let set = set_of(rt, job)?;
-    let dialect = &job.options.dialect;
-    Ok(Options {
-        grammar: job.options.grammar,
-        edition: job.options.edition,
-        dialect: Dialect {
-            scope: dialect.scope,
-            items: dialect.items,
-            cfg: Some(set),
-            limits: dialect.limits,
-            excuses: dialect.excuses,
-        },
-        depth: job.options.depth,
-    })
+    Ok(under(&job.options, Some(set)))
 }
 
 // The folder in which the program runs, or nothing where that is not told.

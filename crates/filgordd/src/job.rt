@@ -20,6 +20,8 @@ pub(crate) enum Action {
     Macros,
     /// It is answered as a script of edits and expansions.
     Replay,
+    /// An editor is served.
+    Serve,
     /// It is shown with its expansion, as an HTML page.
     View,
 }
@@ -33,6 +35,7 @@ pub(crate) fn action_of(name: &str) -> Option<Action>
         "expand" => Some(Action::Expand),
         "explain" => Some(Action::Explain),
         "macros" => Some(Action::Macros),
+        "lsp" => Some(Action::Serve),
         "replay" => Some(Action::Replay),
         "view" => Some(Action::View),
         _ => None,
@@ -49,6 +52,8 @@ pub(crate) struct Job<'a> {
     pub(crate) layout: bool,
     /// Whether the reply is told as JSON.
     pub(crate) json: bool,
+    /// Whether an editor is sent no diagnostics.
+    pub(crate) quiet: bool,
     /// The folder of the libraries whose definitions come first.
     pub(crate) library: Option<&'a str>,
     /// The words for the other files, in order.
