@@ -95,7 +95,7 @@ pub is_simple_program : (app : App) → IsProgram app → is_simple app ≡ true
 is_simple_program app p =
     let of_six : Shape → Shape → Shape → Shape → Shape → Shape → App = λ a b c d e f. record { top = program_shape; subs = a ∷ b ∷ c ∷ d ∷ e ∷ f ∷ [] } in
     let with_expand : Shape → Shape = λ s. in_crate (with_more json_rule (with_more layout_rule s)) in
-    let with_lsp : Shape → Shape = λ s. with_more (diagnostics_rule p.is_lsp.diagnostics) (with_others s) in
+    let with_lsp : Shape → Shape = λ s. in_crate (with_more (diagnostics_rule p.is_lsp.diagnostics) (with_others s)) in
     let expand : Shape = with_expand (text_shape (codes "expand") p.is_expand.base p.is_expand.is_base) in
     let explain : Shape = text_shape (codes "explain") p.explain p.is_explain in
     let lsp : Shape = with_lsp (shape_by (codes "lsp") p.is_lsp.base p.is_lsp.is_base) in

@@ -26,7 +26,7 @@ module _ (grammar edition scope depth calls tokens diagnostics : ValueParser) wh
     top = program_shape;
     subs = in_crate (with_more json_rule (with_more layout_rule (on_text (codes "expand"))))
         ∷ on_text (codes "explain")
-        ∷ with_more (diagnostics_rule diagnostics) (with_others (named (codes "lsp")))
+        ∷ in_crate (with_more (diagnostics_rule diagnostics) (with_others (named (codes "lsp"))))
         ∷ in_crate (on_text (codes "macros")) ∷ on_text (codes "replay")
         ∷ on_text (codes "view") ∷ [];
   }
@@ -118,12 +118,12 @@ module _ (grammar edition scope depth calls tokens diagnostics : ValueParser) wh
   unfolding clap_on_literals
   no_diagnostics = refl
 
+  -- `filgordd lsp --crate r`
+  one_crate : crate_words (codes "filgordd" ∷ codes "lsp" ∷ codes "--crate" ∷ codes "r" ∷ []) ≡ Some (Some (codes "lsp"), (Some (codes "r"), None))
+  unfolding clap_on_literals
+  one_crate = refl
+
   -- `filgordd lsp`
   all_diagnostics : served (codes "filgordd" ∷ codes "lsp" ∷ []) ≡ Some (codes "lsp", (Some (codes "all"), None))
   unfolding clap_on_literals
   all_diagnostics = refl
-
-  -- `filgordd lsp t`
-  no_text : served (codes "filgordd" ∷ codes "lsp" ∷ codes "t" ∷ []) ≡ None
-  unfolding clap_on_literals
-  no_text = refl

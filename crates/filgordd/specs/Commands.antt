@@ -136,12 +136,12 @@ pub record IsMacrosSubcommand (shape : Shape) : Type 0 where
 abbrev pub diagnostics_rule : ValueParser → Rule
 diagnostics_rule parser = option_rule (codes "diagnostics") (codes "all") parser
 
--- `lsp`, which serves an editor: it takes no file, and says which diagnostics go
+-- `lsp`, which serves an editor: it takes no file, says which diagnostics go, and takes a crate
 pub record IsServerSubcommand (shape : Shape) : Type 0 where
   pub base : Shape
   pub is_base : HasOptions (codes "lsp") base
   pub diagnostics : ValueParser
-  pub shape_is : shape ≡ with_more (diagnostics_rule diagnostics) (with_others base)
+  pub shape_is : shape ≡ in_crate (with_more (diagnostics_rule diagnostics) (with_others base))
 
 -- the program: one of its six subcommands has to be named
 abbrev pub program_shape : Shape

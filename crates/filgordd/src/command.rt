@@ -301,7 +301,9 @@ fn server_subcommand<'a>(alloc: Global) -> Result<Command<'a>, AllocError>
         .arg(library(alloc))?
         .arg(with(alloc))?
         .arg(cfg(alloc))?
-        .arg(diagnostics(alloc))
+        .arg(diagnostics(alloc))?
+        .arg(other_crate(alloc))?
+        .arg(root(alloc))
 }
 
 // The program's command without its subcommands.

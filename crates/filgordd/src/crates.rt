@@ -17,8 +17,8 @@ use std::alloc::{AllocError, Global};
 use std::process::ExitCode;
 use std::{env, io};
 
-// The set of the options that a job's words for `cfg` name: an empty one without a word.
-fn set_of(rt: &HostRuntime, job: &Job<'_>) -> Result<CfgOptions, Ended> {
+/// The set of the options that a job's words for `cfg` name: an empty one without a word.
+pub(crate) fn set_of(rt: &HostRuntime, job: &Job<'_>) -> Result<CfgOptions, Ended> {
     match cfg_of(rt.alloc(), job.cfg.as_slice())? {
         Ok(Some(set)) => Ok(set),
         Ok(None) => Ok(CfgOptions::new(rt.alloc())),
@@ -180,6 +180,20 @@ fn answer_file(
     }
 }
 
+/// The crate with this root, with what a job's words give of others. What cannot be followed is
+/// reported.
+pub(crate) fn walked(
+    rt: &HostRuntime,
+    job: &Job<'_>,
+    disk: &Disk<'_>,
+    root: &str,
+) -> Result<Whole, Ended> {
+    let whole = whole_from(rt, job.others(), disk, root)?;
+    let folder = folder_of(rt)?;
+    tell_lacks(rt, &whole.walked.modules, folder.as_str())?;
+    Ok(whole)
+}
+
 /// Does a job on the files of the crate with this root. The status is 0 if no file has a fault.
 pub(crate) fn perform_crate(
     rt: &HostRuntime,
@@ -188,10 +202,9 @@ pub(crate) fn perform_crate(
 ) -> Result<ExitCode, Ended> {
     let set = set_of(rt, job)?;
     let disk = Disk { rt, options: &set };
-    let whole = whole_from(rt, job.others(), &disk, root)?;
+    let whole = walked(rt, job, &disk, root)?;
     let modules = &whole.walked.modules;
     let folder = folder_of(rt)?;
-    tell_lacks(rt, modules, folder.as_str())?;
     let words = job.files.as_slice();
     let files = chosen_files(rt.alloc(), &disk, modules, words, folder.as_str())?;
     let mut faultless = true;

@@ -12,6 +12,7 @@ mod layout;
 mod place;
 mod request;
 mod server;
+mod uri;
 mod view;
 mod warned;
 mod warnings;

@@ -1,31 +1,53 @@
 //! Serves an editor on the program's streams.
 
 use crate::conditions::{cfg_of, under};
+use crate::crates::{set_of, walked};
 use crate::job::Job;
+use crate::uri::path_of;
 use any_grammar::AnyGrammar;
+use cfg_options::CfgOptions;
 use expander::{Options, Prelude};
-use program_files::{Ended, Sources, misused, prelude_of, sources_of, stopped};
+use program_files::{
+    Disk, Ended, Sources, Whole, prelude_of, prelude_of_path, sources_of, stopped,
+};
 use session_workspace::{Setup, Shown, end_words, serve_texts};
 use std::alloc::{AllocError, Global};
 use std::process::ExitCode;
 use tt_data::TtFault;
 
-// By what an editor's texts are expanded: these options, words for options of `cfg`, and sources.
+// The files whose definitions an editor's texts are expanded after.
+#[derive(Drop)]
+enum Given {
+    Sources(Sources),
+    Crate(Whole),
+}
+
+// By what an editor's texts are expanded: these options, words for options of `cfg`, and files.
 #[derive(Drop)]
 struct Texts<'a> {
     options: &'a Options<AnyGrammar>,
     cfg: &'a [&'a str],
-    sources: Sources,
+    disk: Disk<'a>,
+    given: Given,
 }
 
 impl Setup for Texts<'_> {
     fn options(&self, alloc: Global) -> Result<Options<AnyGrammar>, AllocError> {
-        let cfg = cfg_of(alloc, self.cfg)?.unwrap_or(None);
+        let cfg = match (cfg_of(alloc, self.cfg)?.unwrap_or(None), &self.given) {
+            (None, Given::Crate(_)) => Some(CfgOptions::new(alloc)),
+            (cfg, _) => cfg,
+        };
         Ok(under(self.options, cfg))
     }
 
-    fn prelude(&self, alloc: Global) -> Result<Prelude, TtFault> {
-        prelude_of(alloc, &self.sources)
+    fn prelude(&self, alloc: Global, uri: &str) -> Result<Prelude, TtFault> {
+        match (&self.given, path_of(alloc, uri)?) {
+            (Given::Sources(sources), _) => prelude_of(alloc, sources),
+            (Given::Crate(whole), path) => {
+                let path = path.as_ref().map_or("", String::as_str);
+                prelude_of_path(alloc, &self.disk, whole, path)
+            }
+        }
     }
 }
 
@@ -34,7 +56,8 @@ impl Setup for Texts<'_> {
 fn serve(rt: &HostRuntime, texts: Texts<'_>, shown: Shown) -> Result<ExitCode, Ended> {
     let mut reader = rt.stdin();
     let mut writer = rt.stdout();
-    match end_words(serve_texts(rt.alloc(), &mut reader, &mut writer, texts, shown)) {
+    let end = serve_texts(rt.alloc(), &mut reader, &mut writer, texts, shown);
+    match end_words(end) {
         None => Ok(ExitCode::SUCCESS),
         Some(why) => Ok(stopped(rt, why)?),
     }
@@ -43,13 +66,17 @@ fn serve(rt: &HostRuntime, texts: Texts<'_>, shown: Shown) -> Result<ExitCode, E
 /// Serves an editor by a job. The status is 0 only if the editor asked to shut down, and 2 where a
 /// word for `cfg` names no option, or a file cannot be read.
 pub(crate) fn serve_editor(rt: &HostRuntime, job: &Job<'_>) -> Result<ExitCode, Ended> {
-    if let Err(word) = cfg_of(rt.alloc(), job.cfg.as_slice())? {
-        return Ok(misused(rt, word, &"no option for cfg")?);
-    }
+    let set = set_of(rt, job)?;
+    let disk = Disk { rt, options: &set };
+    let given = match job.root {
+        Some(root) => Given::Crate(walked(rt, job, &disk, root)?),
+        None => Given::Sources(sources_of(rt, job.others())?),
+    };
     let texts = Texts {
         options: &job.options,
         cfg: job.cfg.as_slice(),
-        sources: sources_of(rt, job.others())?,
+        disk,
+        given,
     };
     let shown = if job.quiet { Shown::Nothing } else { Shown::All };
     serve(rt, texts, shown)

@@ -14,11 +14,15 @@ returns-clause-shape c =
     ∙ ap (with_more (rule_of c.with.result)) first in
     let third = ap (λ (a : App). a.top) (c.in_ok-arg-3.ensures.shape c.cfg.ensures.own)
     ∙ ap (with_more (rule_of c.cfg.result)) second in
-    IfOk-weaker c.arg-4.result _ _ (λ r h. record {
+    let fourth = ap (λ (a : App). a.top) (c.in_ok-arg-4.ensures.shape c.diagnostics.ensures.own)
+    ∙ ap (with_more (rule_of c.diagnostics.result)) third in
+    let fifth = ap (λ (a : App). a.top) (c.in_ok-arg-5.ensures.shape c.other_crate.ensures.own)
+    ∙ ap (with_more (rule_of c.other_crate.result)) fourth in
+    IfOk-weaker c.arg-6.result _ _ (λ r h. record {
       base = base;
       is_base = c.in_ok-options_command.ensures.shape;
       diagnostics = sent.0;
-      shape_is = ap (λ (a : App). a.top) (h.shape c.diagnostics.ensures.own)
-          ∙ ap (with_more (rule_of c.diagnostics.result)) third
-          ∙ (λ i. with_more (sent.1 i) (with_more (c.cfg.ensures.rule i) (with_more (c.with.ensures.rule i) (with_more (c.library.ensures.rule i) base))));
-    }) c.arg-4.ensures
+      shape_is = ap (λ (a : App). a.top) (h.shape c.root.ensures.own)
+          ∙ ap (with_more (rule_of c.root.result)) fifth
+          ∙ (λ i. with_more (c.root.ensures.rule i) (with_more (c.other_crate.ensures.rule i) (with_more (sent.1 i) (with_more (c.cfg.ensures.rule i) (with_more (c.with.ensures.rule i) (with_more (c.library.ensures.rule i) base))))));
+    }) c.arg-6.ensures
