@@ -84,21 +84,21 @@ shape_by name shape h = options_of_name name h.grammar h.edition h.scope h.depth
 
 -- the shape of a subcommand on a text
 abbrev text_shape : (name : Text) (shape : Shape) → IsTextSubcommand name shape → Shape
-text_shape name shape h = with_others (with_more file_rule (shape_by name h.is_base.base h.is_base.is_base))
+text_shape name shape h = with_more file_rule (with_others (shape_by name h.is_base.base h.is_base.is_base))
 
 text_shape_is : (name : Text) (shape : Shape) (h : IsTextSubcommand name shape) → shape ≡ text_shape name shape h
 text_shape_is name shape h =
-    h.shape_is ∙ ap with_others (h.is_base.shape_is ∙ ap (with_more file_rule) h.is_base.is_base.shape_is)
+    h.shape_is ∙ ap (with_more file_rule) (h.is_base.shape_is ∙ ap with_others h.is_base.is_base.shape_is)
 
 -- the program is one of which clap says the matches
 pub is_simple_program : (app : App) → IsProgram app → is_simple app ≡ true
 is_simple_program app p =
     let of_six : Shape → Shape → Shape → Shape → Shape → Shape → App = λ a b c d e f. record { top = program_shape; subs = a ∷ b ∷ c ∷ d ∷ e ∷ f ∷ [] } in
     let with_expand : Shape → Shape = λ s. in_crate (with_more json_rule (with_more layout_rule s)) in
-    let with_lsp : Shape → Shape = λ s. in_crate (with_more (diagnostics_rule p.is_lsp.diagnostics) (with_others s)) in
+    let with_sent : Shape → Shape = λ s. in_crate (with_more (diagnostics_rule p.is_lsp.diagnostics) s) in
     let expand : Shape = with_expand (text_shape (codes "expand") p.is_expand.base p.is_expand.is_base) in
     let explain : Shape = text_shape (codes "explain") p.explain p.is_explain in
-    let lsp : Shape = with_lsp (shape_by (codes "lsp") p.is_lsp.base p.is_lsp.is_base) in
+    let lsp : Shape = with_sent (with_others (shape_by (codes "lsp") p.is_lsp.is_base.base p.is_lsp.is_base.is_base)) in
     let macros : Shape = in_crate (text_shape (codes "macros") p.is_macros.base p.is_macros.is_base) in
     let replay : Shape = text_shape (codes "replay") p.replay p.is_replay in
     ap is_simple (p.app_is
@@ -106,7 +106,7 @@ is_simple_program app p =
     (p.is_expand.shape_is ∙ ap with_expand (text_shape_is (codes "expand") p.is_expand.base p.is_expand.is_base))
     ∙ ap (λ (s : Shape). of_six expand s p.lsp p.macros p.replay p.view) (text_shape_is (codes "explain") p.explain p.is_explain)
     ∙ ap (λ (s : Shape). of_six expand explain s p.macros p.replay p.view)
-    (p.is_lsp.shape_is ∙ ap with_lsp p.is_lsp.is_base.shape_is)
+    (p.is_lsp.shape_is ∙ ap with_sent (p.is_lsp.is_base.shape_is ∙ ap with_others p.is_lsp.is_base.is_base.shape_is))
     ∙ ap (λ (s : Shape). of_six expand explain lsp s p.replay p.view)
     (p.is_macros.shape_is ∙ ap in_crate (text_shape_is (codes "macros") p.is_macros.base p.is_macros.is_base))
     ∙ ap (λ (s : Shape). of_six expand explain lsp macros s p.view) (text_shape_is (codes "replay") p.replay p.is_replay)

@@ -19,7 +19,7 @@ module _ (grammar edition scope depth calls tokens diagnostics : ValueParser) wh
   }
 
   abbrev on_text : Text → Shape
-  on_text name = with_others (with_more file_rule (named name))
+  on_text name = with_more file_rule (with_others (named name))
 
   abbrev program : App
   program = record {

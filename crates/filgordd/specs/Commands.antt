@@ -99,22 +99,20 @@ pub record HasOptions (name : Text) (shape : Shape) : Type 0 where
 abbrev pub with_more : Rule → Shape → Shape
 with_more rule s = record s { rules = s.rules ++ rule ∷ [] }
 
--- a subcommand on a text
-pub record IsSubcommand (name : Text) (shape : Shape) : Type 0 where
-  pub base : Shape
-  pub is_base : HasOptions name base
-  pub shape_is : shape ≡ with_more file_rule base
-
--- a subcommand that takes definitions of other texts too, and options of `cfg`
+-- a command that takes definitions of other texts too, and options of `cfg`
 abbrev pub with_others : Shape → Shape
 with_others s = with_more cfg_rule (with_more with_rule (with_more library_rule s))
 
--- a subcommand on a text, which takes these
+pub record TakesOthers (name : Text) (shape : Shape) : Type 0 where
+  pub base : Shape
+  pub is_base : HasOptions name base
+  pub shape_is : shape ≡ with_others base
 
+-- a subcommand on a text
 pub record IsTextSubcommand (name : Text) (shape : Shape) : Type 0 where
   pub base : Shape
-  pub is_base : IsSubcommand name base
-  pub shape_is : shape ≡ with_others base
+  pub is_base : TakesOthers name base
+  pub shape_is : shape ≡ with_more file_rule base
 
 -- a subcommand that takes files of a crate, and other crates
 abbrev pub in_crate : Shape → Shape
@@ -139,9 +137,9 @@ diagnostics_rule parser = option_rule (codes "diagnostics") (codes "all") parser
 -- `lsp`, which serves an editor: it takes no file, says which diagnostics go, and takes a crate
 pub record IsServerSubcommand (shape : Shape) : Type 0 where
   pub base : Shape
-  pub is_base : HasOptions (codes "lsp") base
+  pub is_base : TakesOthers (codes "lsp") base
   pub diagnostics : ValueParser
-  pub shape_is : shape ≡ in_crate (with_more (diagnostics_rule diagnostics) (with_others base))
+  pub shape_is : shape ≡ in_crate (with_more (diagnostics_rule diagnostics) base)
 
 -- the program: one of its six subcommands has to be named
 abbrev pub program_shape : Shape

@@ -5,7 +5,7 @@ ghost use Rattle.clap.specs.declared.builder.command.Command.TheViews.{out-Comma
 ghost use Rattle.clap.specs.declared.builder.value_parser.ValueParser.{ValueParser};
 ghost use Rattle.filgordd.specs.Commands.{ChoosesLanguage, IsExpandSubcommand, IsMacrosSubcommand};
 ghost use Rattle.filgordd.specs.Commands.{HasOptions, IsProgram, IsServerSubcommand};
-ghost use Rattle.filgordd.specs.Commands.{IsSubcommand, IsTextSubcommand};
+ghost use Rattle.filgordd.specs.Commands.{IsTextSubcommand, TakesOthers};
 ghost use Rattle.filgordd.specs.Commands.{bare_program, cfg_rule, crate_rule, extern_rule};
 ghost use Rattle.filgordd.specs.Commands.{file_rule, json_rule, layout_rule, library_rule};
 ghost use Rattle.filgordd.specs.Commands.{option_rule, with_rule};
@@ -244,15 +244,22 @@ fn options_command<'a>(
         .arg(most_tokens(alloc))
 }
 
-// A subcommand on a text.
-fn subcommand<'a>(alloc: Global, name: &'a str, about: &'a str) -> Result<Command<'a>, AllocError>
-    ensures shape { IfOk result (λ c. IsSubcommand name.now (shape_of c)) }
+// A command that takes definitions of other texts too, and options of `cfg`.
+fn others_command<'a>(
+    alloc: Global,
+    name: &'a str,
+    about: &'a str,
+) -> Result<Command<'a>, AllocError>
+    ensures shape { IfOk result (λ c. TakesOthers name.now (shape_of c)) }
     ensures own { IfOk result (λ c. (fields_of c).has_globals ≡ false) }
 {
-    options_command(alloc, name, about)?.arg(file(alloc))
+    options_command(alloc, name, about)?
+        .arg(library(alloc))?
+        .arg(with(alloc))?
+        .arg(cfg(alloc))
 }
 
-// A subcommand on a text that may call the macros of other texts.
+// A subcommand on a text.
 fn text_subcommand<'a>(
     alloc: Global,
     name: &'a str,
@@ -261,10 +268,7 @@ fn text_subcommand<'a>(
     ensures shape { IfOk result (λ c. IsTextSubcommand name.now (shape_of c)) }
     ensures own { IfOk result (λ c. (fields_of c).has_globals ≡ false) }
 {
-    subcommand(alloc, name, about)?
-        .arg(library(alloc))?
-        .arg(with(alloc))?
-        .arg(cfg(alloc))
+    others_command(alloc, name, about)?.arg(file(alloc))
 }
 
 // The subcommand that prints an expansion.
@@ -297,10 +301,7 @@ fn server_subcommand<'a>(alloc: Global) -> Result<Command<'a>, AllocError>
     ensures own { IfOk result (λ c. (fields_of c).has_globals ≡ false) }
 {
     let about = "Serves an editor by the Language Server Protocol on standard input and output";
-    options_command(alloc, "lsp", about)?
-        .arg(library(alloc))?
-        .arg(with(alloc))?
-        .arg(cfg(alloc))?
+    others_command(alloc, "lsp", about)?
         .arg(diagnostics(alloc))?
         .arg(other_crate(alloc))?
         .arg(root(alloc))

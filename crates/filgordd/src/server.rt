@@ -78,6 +78,10 @@ pub(crate) fn serve_editor(rt: &HostRuntime, job: &Job<'_>) -> Result<ExitCode, 
         disk,
         given,
     };
-    let shown = if job.quiet { Shown::Nothing } else { Shown::All };
+    let shown = if job.quiet {
+        Shown::Nothing
+    } else {
+        Shown::All
+    };
     serve(rt, texts, shown)
 }
