@@ -32,8 +32,12 @@
       (insert (aref lsp-bits (random (length lsp-bits)))))))
 
 (defun lsp-tell ()
-  "Send the edits that were not sent yet."
-  (eglot--signal-textDocument/didChange))
+  "Send the edits that were not sent yet, and wait until their diagnostics have come.
+Eglot 1.9 may loop for ever over those of an earlier text."
+  (eglot--signal-textDocument/didChange)
+  (jsonrpc-request (eglot-current-server) :textDocument/documentSymbol
+                   (list :textDocument (eglot--TextDocumentIdentifier))
+                   :timeout 20))
 
 (defun lsp-main ()
   (random (getenv "SEED"))
@@ -43,12 +47,11 @@
   (buffer-enable-undo)
   (add-to-list 'eglot-server-programs (cons 'lsp-mode lsp-command))
   (apply #'eglot (eglot--guess-contact))
+  (lsp-tell)
   (dotimes (i 300)
     (lsp-edit)
     (when (= 0 (random 4)) (lsp-tell)))
   (lsp-tell)
-  (jsonrpc-request (eglot-current-server) :textDocument/documentSymbol
-                   (list :textDocument (eglot--TextDocumentIdentifier)))
   (let ((coding-system-for-write 'utf-8-unix))
     (write-region nil nil (concat lsp-room "/text") nil 'silent))
   (eglot-shutdown (eglot-current-server) nil 20))

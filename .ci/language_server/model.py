@@ -82,6 +82,10 @@ def changes_in(params):
 # ---- what is wrong with texts
 
 
+class Differ(Exception):
+    """The program tells of one place in two ways."""
+
+
 class Program:
     """The program, with options for texts. It tells of each text once."""
 
@@ -119,7 +123,7 @@ def fault_range(text, at):
     found = texts.range_of(text, start, end)
     for name, (line, column) in (("start", at["start"]), ("end", at["end"])):
         if found[name] != {"line": line - 1, "character": column}:
-            raise ValueError(f"the bytes and the lines of a fault differ: {at} in {text!r}")
+            raise Differ(f"the bytes and the lines of a fault: {at} in {text!r}")
     return found
 
 
@@ -166,10 +170,11 @@ def nothing(program, uri, text, place):
     return None
 
 
-SYMBOLS = "textDocument/documentSymbol"
+SYMBOLS, DEFINITION = "textDocument/documentSymbol", "textDocument/definition"
+# Which answer each question gets: a new one has its function here.
 ANSWERS = {
     SYMBOLS: symbols,
-    "textDocument/definition": definition,
+    DEFINITION: definition,
     "textDocument/hover": nothing,
     "rust-analyzer/expandMacro": nothing,
 }

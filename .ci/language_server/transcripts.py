@@ -135,8 +135,10 @@ class Client:
     def bit(self):
         return self.pick(WHOLE if self.is_likely(85) else WILD)
 
+    # Definitions and calls of them, or anything.
     def new_text(self):
-        return "".join(self.random.choices(WHOLE, k=self.random.randrange(12)))
+        begin = self.random.sample(WHOLE[:8], 6) if self.is_likely(60) else []
+        return "".join(begin + self.random.choices(WHOLE, k=self.random.randrange(12)))
 
     def version(self):
         self.count += 1
@@ -211,15 +213,16 @@ class Client:
         params = {"textDocument": {"uri": uri}, "position": self.called_place(uri)}
         if self.is_likely(10):
             params = self.pick([None, [], {}, {"textDocument": {"uri": uri}}, {"position": FAR[0]}])
-        return self.request(self.pick(list(model.ANSWERS)), params)
+        method = self.pick([model.DEFINITION, *model.ANSWERS])
+        return self.request(method, params)
 
     # A place, often in the name of a call.
     def called_place(self, uri):
         text, _version = self.server.documents.get(uri, ("", 0))
-        calls = [it.span(1) for it in re.finditer(r"(\w+)!", text)]
+        calls = [it.span(1) for it in re.finditer(r"(\w+)! ?[({\[]", text)]
         if self.is_likely(5):
             return self.pick(BAD_PLACES)
-        if not calls or self.is_likely(30):
+        if not calls or self.is_likely(20):
             return self.place(text)
         start, end = self.pick(calls)
         return texts.place_of(text, self.random.randint(start, end))
@@ -247,7 +250,7 @@ class Client:
             self.edit: 45,
             self.mending: 10,
             self.closing: 3,
-            self.question: 15,
+            self.question: 25,
             self.symbols: 15,
             self.unknown: 3,
             self.unheard: 3,
@@ -261,6 +264,7 @@ class Client:
             yield self.pick([self.body, self.no_message])()
         yield self.request("initialize", {"capabilities": {}})
         yield self.note("initialized", {})
+        yield self.opening()
         for _ in range(self.random.randrange(10, 60)):
             yield self.body()
         if self.is_likely(80):
