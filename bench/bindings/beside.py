@@ -8,7 +8,8 @@ import resource
 import subprocess
 import sys
 
-from texts import text_of
+sys.dont_write_bytecode = True
+from texts import text_of  # noqa: E402
 
 RUNS = 7
 ROWS = {"opened": "s 5 0 +", "edited": "e 40 0 +"}
