@@ -137,15 +137,15 @@ check_words() {
     file_at= root=
     find_root
     case ${words[0]-} in
-        expand | explain | macros | replay | view) ;;
+        expand | explain | lsp | macros | replay | view) ;;
         '') misused 'there is no command' ;;
         *) misused "there is no command $(shown "${words[0]}")" ;;
     esac
     while [ $i -lt ${#words[@]} ]; do
         case ${words[i]} in
             --) check_rest $((i + 1)); return ;;
-            --grammar=* | --edition=* | --scope=* | --depth=* | --most-calls=* | --most-tokens=* | --std=* | --with=* | --cfg=* | --crate=* | --extern=*) check_value "${words[i]%%=*}" "${words[i]#*=}" ;;
-            --grammar | --edition | --scope | --depth | --most-calls | --most-tokens | --with | --cfg | --crate | --extern)
+            --grammar=* | --edition=* | --scope=* | --depth=* | --most-calls=* | --most-tokens=* | --std=* | --with=* | --cfg=* | --crate=* | --extern=* | --diagnostics=*) check_value "${words[i]%%=*}" "${words[i]#*=}" ;;
+            --grammar | --edition | --scope | --depth | --most-calls | --most-tokens | --with | --cfg | --crate | --extern | --diagnostics)
                 [ $((i + 1)) -lt ${#words[@]} ] || misused "${words[i]} has no value"
                 check_value "${words[i]}" "${words[i + 1]}"
                 i=$((i + 1))
@@ -156,6 +156,7 @@ check_words() {
         esac
         i=$((i + 1))
     done
+    [ "${words[0]}" != lsp ] || [ -z "$quick" ] || fail 'lsp takes the built program: leave --quick out'
 }
 
 # The words from this index on are no options.
@@ -180,6 +181,7 @@ find_root() {
 
 # Takes the word at this index as the file.
 take_file() {
+    [ "${words[0]}" != lsp ] || misused 'lsp takes no file'
     if [ -n "$root" ]; then
         check_file "${words[$1]}"
         return
@@ -208,6 +210,7 @@ check_value() {
         --extern=?*@?*=?*) check_other "$2" && return ;;
         --grammar=rust | --grammar=small | --edition=2015 | --edition=2018 | --edition=2021 | --edition=2024) return ;;
         --scope=rust | --scope=top) return ;;
+        --diagnostics=all | --diagnostics=likely | --diagnostics=none) [ "${words[0]}" != lsp ] || return ;;
         --depth=*) [[ $2 =~ ^\+?0*([0-9]{1,3})$ ]] && [ "${BASH_REMATCH[1]}" -le 255 ] && return ;;
         --most-calls=* | --most-tokens=*) [[ $2 =~ ^\+?0*[0-9]{1,19}$ ]] && return ;;
     esac

@@ -8,8 +8,9 @@ use Rattle.clap.specs.Walk.{Row, Text, all_of, first_of, one_of, rows_of}
 use Rattle.clap.specs.declared.builder.value_parser.ValueParser.{ValueParser}
 use Rattle.clap.specs.declared.parser.matches.Found.{Found}
 use Rattle.filgordd.specs.Choices.{action_name}
-use Rattle.filgordd.specs.Commands.{AsksBy, AsksFor, IsFile, IsFlag, IsProgram, file_rule, in_crate, json_rule, layout_rule, on_text, option_rule, program_shape, with_more}
+use Rattle.filgordd.specs.Commands.{AsksBy, AsksFor, HasOptions, IsFile, IsFlag, IsProgram, IsTextSubcommand, NamesDiagnostics, diagnostics_rule, file_rule, in_crate, json_rule, layout_rule, option_rule, program_shape, with_more, with_others}
 use Rattle.filgordd.specs.declared.job.Action.{Action}
+use Rattle.filgordd.specs.declared.job.Diagnostics.{Diagnostics}
 use Rattle.filgordd.specs.declared.job.Job.{Job}
 
 -- the value that was got of an id is the first of its row
@@ -20,6 +21,10 @@ value_is now f id got x is was = sym (first_value-rows f id) ∙ sym is ∙ ap (
 pub file_is : {B : Type 0} (now : B → Text) (f : Found) (id : Text) (got : Option B) (file : Option Text) → option_map now got ≡ first_value f id
     → IsFile (option_map now got) file → IsFile (first_of id (rows_of f)) file
 file_is now f id got file is h = subst (λ (word : Option Text). IsFile word file) (is ∙ first_value-rows f id) h
+
+pub diagnostics_are : {B : Type 0} (now : B → Text) (f : Found) (id : Text) (got : Option B) (which : Diagnostics) → option_map now got ≡ first_value f id
+    → NamesDiagnostics (option_map now got) which → NamesDiagnostics (first_of id (rows_of f)) which
+diagnostics_are now f id got which is h = subst (λ (word : Option Text). NamesDiagnostics word which) (is ∙ first_value-rows f id) h
 
 -- what was got of an id, if anything, is the first of its row
 pub option_is : {B : Type 0} (now : B → Text) (f : Found) (id : Text) (got : Option B) → option_map now got ≡ first_value f id
@@ -63,36 +68,47 @@ pub makes_asked : {E : Type 0} (o : Option (Text × List Row)) (name : Text) (ro
 makes_asked o name rows action (Err e) is named by asks = tt
 makes_asked o name rows action (Ok m) is named by asks = asks_for o name rows action m is named by asks
 
--- a subcommand with these tests of its values
-abbrev subcommand_of_name : Text → ValueParser → ValueParser → ValueParser → ValueParser → ValueParser → ValueParser → Shape
-subcommand_of_name name grammar edition scope depth calls tokens = record (new_shape name) {
+-- a command with these tests of its values
+abbrev options_of_name : Text → ValueParser → ValueParser → ValueParser → ValueParser → ValueParser → ValueParser → Shape
+options_of_name name grammar edition scope depth calls tokens = record (new_shape name) {
   rules = option_rule (codes "grammar") (codes "rust") grammar
       ∷ option_rule (codes "edition") (codes "2024") edition
       ∷ option_rule (codes "scope") (codes "rust") scope
       ∷ option_rule (codes "depth") (codes "128") depth
       ∷ option_rule (codes "most-calls") (codes "1048576") calls
-      ∷ option_rule (codes "most-tokens") (codes "1048576") tokens ∷ file_rule ∷ [];
+      ∷ option_rule (codes "most-tokens") (codes "1048576") tokens ∷ [];
 }
+
+-- the shape of a subcommand that has the options of each
+abbrev shape_by : (name : Text) (shape : Shape) → HasOptions name shape → Shape
+shape_by name shape h = options_of_name name h.grammar h.edition h.scope h.depth h.calls h.tokens
+
+-- the shape of a subcommand on a text
+abbrev text_shape : (name : Text) (shape : Shape) → IsTextSubcommand name shape → Shape
+text_shape name shape h = with_more file_rule (with_others (shape_by name h.is_base.base h.is_base.is_base))
+
+text_shape_is : (name : Text) (shape : Shape) (h : IsTextSubcommand name shape) → shape ≡ text_shape name shape h
+text_shape_is name shape h =
+    h.shape_is ∙ ap (with_more file_rule) (h.is_base.shape_is ∙ ap with_others h.is_base.is_base.shape_is)
 
 -- the program is one of which clap says the matches
 pub is_simple_program : (app : App) → IsProgram app → is_simple app ≡ true
 is_simple_program app p =
-    let base : Text → ValueParser → ValueParser → ValueParser → ValueParser → ValueParser → ValueParser → Shape = λ name g e s d m n. on_text (subcommand_of_name name g e s d m n) in
-    let of_five : Shape → Shape → Shape → Shape → Shape → App = λ a b c d e. record { top = program_shape; subs = a ∷ b ∷ c ∷ d ∷ e ∷ [] } in
+    let of_six : Shape → Shape → Shape → Shape → Shape → Shape → App = λ a b c d e f. record { top = program_shape; subs = a ∷ b ∷ c ∷ d ∷ e ∷ f ∷ [] } in
     let with_expand : Shape → Shape = λ s. in_crate (with_more json_rule (with_more layout_rule s)) in
-    let expand : Shape = with_expand
-    (base (codes "expand") p.is_expand.is_base.is_base.grammar p.is_expand.is_base.is_base.edition p.is_expand.is_base.is_base.scope
-    p.is_expand.is_base.is_base.depth p.is_expand.is_base.is_base.calls p.is_expand.is_base.is_base.tokens) in
-    let explain : Shape = base (codes "explain") p.is_explain.is_base.grammar p.is_explain.is_base.edition p.is_explain.is_base.scope p.is_explain.is_base.depth p.is_explain.is_base.calls p.is_explain.is_base.tokens in
-    let macros : Shape = in_crate
-    (base (codes "macros") p.is_macros.is_base.is_base.grammar p.is_macros.is_base.is_base.edition p.is_macros.is_base.is_base.scope
-    p.is_macros.is_base.is_base.depth p.is_macros.is_base.is_base.calls p.is_macros.is_base.is_base.tokens) in
-    let replay : Shape = base (codes "replay") p.is_replay.is_base.grammar p.is_replay.is_base.edition p.is_replay.is_base.scope p.is_replay.is_base.depth p.is_replay.is_base.calls p.is_replay.is_base.tokens in
+    let with_sent : Shape → Shape = λ s. in_crate (with_more (diagnostics_rule p.is_lsp.diagnostics) s) in
+    let expand : Shape = with_expand (text_shape (codes "expand") p.is_expand.base p.is_expand.is_base) in
+    let explain : Shape = text_shape (codes "explain") p.explain p.is_explain in
+    let lsp : Shape = with_sent (with_others (shape_by (codes "lsp") p.is_lsp.is_base.base p.is_lsp.is_base.is_base)) in
+    let macros : Shape = in_crate (text_shape (codes "macros") p.is_macros.base p.is_macros.is_base) in
+    let replay : Shape = text_shape (codes "replay") p.replay p.is_replay in
     ap is_simple (p.app_is
-    ∙ ap (λ (s : Shape). of_five s p.explain p.macros p.replay p.view) (p.is_expand.shape_is
-    ∙ ap with_expand (p.is_expand.is_base.shape_is ∙ ap on_text p.is_expand.is_base.is_base.shape_is))
-    ∙ ap (λ (s : Shape). of_five expand s p.macros p.replay p.view) (p.is_explain.shape_is ∙ ap on_text p.is_explain.is_base.shape_is)
-    ∙ ap (λ (s : Shape). of_five expand explain s p.replay p.view) (p.is_macros.shape_is
-    ∙ ap in_crate (p.is_macros.is_base.shape_is ∙ ap on_text p.is_macros.is_base.is_base.shape_is))
-    ∙ ap (λ (s : Shape). of_five expand explain macros s p.view) (p.is_replay.shape_is ∙ ap on_text p.is_replay.is_base.shape_is)
-    ∙ ap (λ (s : Shape). of_five expand explain macros replay s) (p.is_view.shape_is ∙ ap on_text p.is_view.is_base.shape_is))
+    ∙ ap (λ (s : Shape). of_six s p.explain p.lsp p.macros p.replay p.view)
+    (p.is_expand.shape_is ∙ ap with_expand (text_shape_is (codes "expand") p.is_expand.base p.is_expand.is_base))
+    ∙ ap (λ (s : Shape). of_six expand s p.lsp p.macros p.replay p.view) (text_shape_is (codes "explain") p.explain p.is_explain)
+    ∙ ap (λ (s : Shape). of_six expand explain s p.macros p.replay p.view)
+    (p.is_lsp.shape_is ∙ ap with_sent (p.is_lsp.is_base.shape_is ∙ ap with_others p.is_lsp.is_base.is_base.shape_is))
+    ∙ ap (λ (s : Shape). of_six expand explain lsp s p.replay p.view)
+    (p.is_macros.shape_is ∙ ap in_crate (text_shape_is (codes "macros") p.is_macros.base p.is_macros.is_base))
+    ∙ ap (λ (s : Shape). of_six expand explain lsp macros s p.view) (text_shape_is (codes "replay") p.replay p.is_replay)
+    ∙ ap (λ (s : Shape). of_six expand explain lsp macros replay s) (text_shape_is (codes "view") p.view p.is_view))

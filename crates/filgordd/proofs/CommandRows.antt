@@ -5,9 +5,9 @@ use Rattle.clap.proofs.OnLiterals.{clap_on_literals}
 use Rattle.clap.specs.Simple.{App, Shape, new_shape, subcommand_of}
 use Rattle.clap.specs.Walk.{Text, all_of, first_of, one_of}
 use Rattle.clap.specs.declared.builder.value_parser.ValueParser.{ValueParser}
-use Rattle.filgordd.specs.Commands.{file_rule, in_crate, json_rule, layout_rule, on_text, option_rule, program_shape, with_more}
+use Rattle.filgordd.specs.Commands.{diagnostics_rule, file_rule, in_crate, json_rule, layout_rule, option_rule, program_shape, with_more, with_others}
 
-module _ (grammar edition scope depth calls tokens : ValueParser) where
+module _ (grammar edition scope depth calls tokens diagnostics : ValueParser) where
   abbrev named : Text → Shape
   named name = record (new_shape name) {
     rules = option_rule (codes "grammar") (codes "rust") grammar
@@ -15,15 +15,20 @@ module _ (grammar edition scope depth calls tokens : ValueParser) where
         ∷ option_rule (codes "scope") (codes "rust") scope
         ∷ option_rule (codes "depth") (codes "128") depth
         ∷ option_rule (codes "most-calls") (codes "1048576") calls
-        ∷ option_rule (codes "most-tokens") (codes "1048576") tokens ∷ file_rule ∷ [];
+        ∷ option_rule (codes "most-tokens") (codes "1048576") tokens ∷ [];
   }
+
+  abbrev on_text : Text → Shape
+  on_text name = with_more file_rule (with_others (named name))
 
   abbrev program : App
   program = record {
     top = program_shape;
-    subs = in_crate (with_more json_rule (with_more layout_rule (on_text (named (codes "expand"))))) ∷ on_text (named (codes "explain"))
-        ∷ in_crate (on_text (named (codes "macros"))) ∷ on_text (named (codes "replay"))
-        ∷ on_text (named (codes "view")) ∷ [];
+    subs = in_crate (with_more json_rule (with_more layout_rule (on_text (codes "expand"))))
+        ∷ on_text (codes "explain")
+        ∷ in_crate (with_more (diagnostics_rule diagnostics) (with_others (named (codes "lsp"))))
+        ∷ in_crate (on_text (codes "macros")) ∷ on_text (codes "replay")
+        ∷ on_text (codes "view") ∷ [];
   }
 
   -- the subcommand, the four values and the file
@@ -101,3 +106,24 @@ module _ (grammar edition scope depth calls tokens : ValueParser) where
   all_files : crate_words (codes "filgordd" ∷ codes "expand" ∷ codes "--crate=r" ∷ []) ≡ Some (Some (codes "expand"), (Some (codes "r"), None))
   unfolding clap_on_literals
   all_files = refl
+
+  -- which diagnostics an editor is sent, and the folder of libraries
+  abbrev served : List Text → Option (Text × (Option Text × Option Text))
+  served words = option_map {U = Text × (Option Text × Option Text)}
+      (λ p. (p.0, (first_of (codes "diagnostics") p.1, first_of (codes "std") p.1))) (subcommand_of program words)
+
+  -- `filgordd lsp --diagnostics none --std d`
+  no_diagnostics : served (codes "filgordd" ∷ codes "lsp" ∷ codes "--diagnostics" ∷ codes "none" ∷ codes "--std" ∷ codes "d" ∷ [])
+      ≡ Some (codes "lsp", (Some (codes "none"), Some (codes "d")))
+  unfolding clap_on_literals
+  no_diagnostics = refl
+
+  -- `filgordd lsp --crate r`
+  one_crate : crate_words (codes "filgordd" ∷ codes "lsp" ∷ codes "--crate" ∷ codes "r" ∷ []) ≡ Some (Some (codes "lsp"), (Some (codes "r"), None))
+  unfolding clap_on_literals
+  one_crate = refl
+
+  -- `filgordd lsp`
+  likely_diagnostics : served (codes "filgordd" ∷ codes "lsp" ∷ []) ≡ Some (codes "lsp", (Some (codes "likely"), None))
+  unfolding clap_on_literals
+  likely_diagnostics = refl

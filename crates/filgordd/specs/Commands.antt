@@ -7,6 +7,8 @@ use Rattle.clap.specs.declared.builder.action.ArgAction.TheVariants.{Append, Set
 use Rattle.clap.specs.declared.builder.value_parser.ValueParser.{ValueParser}
 use Rattle.expander_run.specs.declared.options.Options.{Options}
 use Rattle.filgordd.specs.Choices.{Chosen, action_name}
+use Rattle.filgordd.specs.declared.job.Diagnostics.{Diagnostics}
+use Rattle.filgordd.specs.declared.job.Diagnostics.TheVariants.{All, Likely, Nothing}
 use Rattle.filgordd.specs.declared.job.Job.{Job}
 use Rattle.filgordd.specs.declared.request.Request.{Request}
 use Rattle.filgordd.specs.declared.request.Request.TheVariants.{Work}
@@ -78,8 +80,8 @@ pub record ChoosesLanguage (name : Text) (shape : Shape) : Type 0 where
         ∷ option_rule (codes "scope") (codes "rust") scope ∷ [];
   }
 
--- a subcommand with this name, whatever tests the values of its options
-pub record IsSubcommand (name : Text) (shape : Shape) : Type 0 where
+-- a command with this name and the options that each subcommand has, whatever tests their values
+pub record HasOptions (name : Text) (shape : Shape) : Type 0 where
   pub grammar : ValueParser
   pub edition : ValueParser
   pub scope : ValueParser
@@ -92,21 +94,27 @@ pub record IsSubcommand (name : Text) (shape : Shape) : Type 0 where
         ∷ option_rule (codes "scope") (codes "rust") scope
         ∷ option_rule (codes "depth") (codes "128") depth
         ∷ option_rule (codes "most-calls") (codes "1048576") calls
-        ∷ option_rule (codes "most-tokens") (codes "1048576") tokens ∷ file_rule ∷ [];
+        ∷ option_rule (codes "most-tokens") (codes "1048576") tokens ∷ [];
   }
 
 -- a command with one more rule
 abbrev pub with_more : Rule → Shape → Shape
 with_more rule s = record s { rules = s.rules ++ rule ∷ [] }
 
--- a subcommand on a text, which takes definitions of other texts too, and options of `cfg`
-abbrev pub on_text : Shape → Shape
-on_text s = with_more cfg_rule (with_more with_rule (with_more library_rule s))
+-- a command that takes definitions of other texts too, and options of `cfg`
+abbrev pub with_others : Shape → Shape
+with_others s = with_more cfg_rule (with_more with_rule (with_more library_rule s))
 
+pub record TakesOthers (name : Text) (shape : Shape) : Type 0 where
+  pub base : Shape
+  pub is_base : HasOptions name base
+  pub shape_is : shape ≡ with_others base
+
+-- a subcommand on a text
 pub record IsTextSubcommand (name : Text) (shape : Shape) : Type 0 where
   pub base : Shape
-  pub is_base : IsSubcommand name base
-  pub shape_is : shape ≡ on_text base
+  pub is_base : TakesOthers name base
+  pub shape_is : shape ≡ with_more file_rule base
 
 -- a subcommand that takes files of a crate, and other crates
 abbrev pub in_crate : Shape → Shape
@@ -124,7 +132,18 @@ pub record IsMacrosSubcommand (shape : Shape) : Type 0 where
   pub is_base : IsTextSubcommand (codes "macros") base
   pub shape_is : shape ≡ in_crate base
 
--- the program: one of its five subcommands has to be named
+-- which diagnostics an editor is sent: the likely ones where the option is not used
+abbrev pub diagnostics_rule : ValueParser → Rule
+diagnostics_rule parser = option_rule (codes "diagnostics") (codes "likely") parser
+
+-- `lsp`, which serves an editor: it takes no file, says which diagnostics go, and takes a crate
+pub record IsServerSubcommand (shape : Shape) : Type 0 where
+  pub base : Shape
+  pub is_base : TakesOthers (codes "lsp") base
+  pub diagnostics : ValueParser
+  pub shape_is : shape ≡ in_crate (with_more (diagnostics_rule diagnostics) base)
+
+-- the program: one of its six subcommands has to be named
 abbrev pub program_shape : Shape
 program_shape = record (new_shape (codes "filgordd")) {
   is_leaf = false;
@@ -140,15 +159,20 @@ bare_program = record { top = record program_shape { is_leaf = true }; subs = []
 pub record IsProgram (app : App) : Type 0 where
   pub expand : Shape
   pub explain : Shape
+  pub lsp : Shape
   pub macros : Shape
   pub replay : Shape
   pub view : Shape
   pub is_expand : IsExpandSubcommand expand
   pub is_explain : IsTextSubcommand (codes "explain") explain
+  pub is_lsp : IsServerSubcommand lsp
   pub is_macros : IsMacrosSubcommand macros
   pub is_replay : IsTextSubcommand (codes "replay") replay
   pub is_view : IsTextSubcommand (codes "view") view
-  pub app_is : app ≡ record { top = program_shape; subs = expand ∷ explain ∷ macros ∷ replay ∷ view ∷ [] }
+  pub app_is : app ≡ record {
+    top = program_shape;
+    subs = expand ∷ explain ∷ lsp ∷ macros ∷ replay ∷ view ∷ [];
+  }
 
 -- a file's name is the word for it, but `-` names none
 pub record IsFile (word file : Option Text) : Type 0 where
@@ -160,6 +184,12 @@ pub record IsFlag (word : Option Text) (set : Bool) : Type 0 where
   pub absent : word ≡ None → set ≡ false
   pub off : word ≡ Some (codes "false") → set ≡ false
   pub on : word ≡ Some (codes "true") → set ≡ true
+
+-- which diagnostics a word stands for
+pub record NamesDiagnostics (word : Option Text) (which : Diagnostics) : Type 0 where
+  pub all : word ≡ Some (codes "all") → which ≡ All
+  pub none : word ≡ Some (codes "none") → which ≡ Nothing
+  pub other : word ≢ Some (codes "all") → word ≢ Some (codes "none") → which ≡ Likely
 
 -- what the values of a subcommand's options choose
 pub record ChosenBy (rows : List Row) (options : Options AnyGrammar) : Type 0 where
@@ -177,19 +207,21 @@ pub record ChosenBy (rows : List Row) (options : Options AnyGrammar) : Type 0 wh
   pub has_tokens : first_of (codes "most-tokens") rows ≡ Some tokens
   pub chosen : Chosen grammar edition scope depth calls tokens options
 
--- what they ask for: a job with these options, laid out or not, as JSON or not, and, each as its word names it, a
--- folder of libraries, other files in order, options of `cfg`, a text, all texts in order,
--- other crates in order, and the root of a crate
+-- what they ask for: a job with these options, laid out or not, as JSON or not, with these
+-- diagnostics, and, each as its word names it, a folder of libraries, other files in order, options
+-- of `cfg`, a text, all texts in order, other crates in order, and the root of a crate
 pub record AsksBy (rows : List Row) (job : Job) : Type 0 where
   pub options : ChosenBy rows job.options
   pub has_layout : IsFlag (one_of (codes "layout") rows) job.layout
   pub has_json : IsFlag (one_of (codes "json") rows) job.json
+  pub has_diagnostics : NamesDiagnostics (first_of (codes "diagnostics") rows) job.diagnostics
   pub has_library : first_of (codes "std") rows ≡ option_map (λ s. s.now) job.library
   pub has_with : unwrap_or (all_of (codes "with") rows) [] ≡ map (λ s. s.now) job.with.items
   pub has_cfg : unwrap_or (all_of (codes "cfg") rows) [] ≡ map (λ s. s.now) job.cfg.items
   pub has_file : IsFile (first_of (codes "file") rows) (option_map (λ s. s.now) job.file)
   pub has_files : unwrap_or (all_of (codes "file") rows) [] ≡ map (λ s. s.now) job.files.items
-  pub has_externs : unwrap_or (all_of (codes "extern") rows) [] ≡ map (λ s. s.now) job.externs.items
+  pub has_externs : unwrap_or (all_of (codes "extern") rows) []
+      ≡ map (λ s. s.now) job.externs.items
   pub has_root : first_of (codes "crate") rows ≡ option_map (λ s. s.now) job.root
 
 -- the subcommand that was named, and its values, ask for this job

@@ -4,7 +4,8 @@ ghost use Rattle.clap.specs.Words.{app_of, rule_of, shape_of};
 ghost use Rattle.clap.specs.declared.builder.command.Command.TheViews.{out-Command as fields_of};
 ghost use Rattle.clap.specs.declared.builder.value_parser.ValueParser.{ValueParser};
 ghost use Rattle.filgordd.specs.Commands.{ChoosesLanguage, IsExpandSubcommand, IsMacrosSubcommand};
-ghost use Rattle.filgordd.specs.Commands.{IsProgram, IsSubcommand, IsTextSubcommand};
+ghost use Rattle.filgordd.specs.Commands.{HasOptions, IsProgram, IsServerSubcommand};
+ghost use Rattle.filgordd.specs.Commands.{IsTextSubcommand, TakesOthers};
 ghost use Rattle.filgordd.specs.Commands.{bare_program, cfg_rule, crate_rule, extern_rule};
 ghost use Rattle.filgordd.specs.Commands.{file_rule, json_rule, layout_rule, library_rule};
 ghost use Rattle.filgordd.specs.Commands.{option_rule, with_rule};
@@ -24,6 +25,8 @@ static GRAMMARS: [&str; 2] = ["rust", "small"];
 static EDITIONS: [&str; 4] = ["2015", "2018", "2021", "2024"];
 
 static SCOPES: [&str; 2] = ["rust", "top"];
+
+static DIAGNOSTICS: [&str; 3] = ["all", "likely", "none"];
 
 fn grammar<'a>(alloc: Global) -> Arg<'a>
     ensures rule { (p : ValueParser)
@@ -101,6 +104,19 @@ fn most_tokens<'a>(alloc: Global) -> Arg<'a>
         .value_parser(value_parser!(u64))
         .default_value("1048576")
         .help("How many tokens their results may have together")
+}
+
+fn diagnostics<'a>(alloc: Global) -> Arg<'a>
+    ensures rule { (p : ValueParser)
+        × (rule_of result ≡ option_rule (codes "diagnostics") (codes "likely") p) }
+    ensures own { result.global ≡ false }
+{
+    Arg::new(alloc, "diagnostics")
+        .long("diagnostics")
+        .value_name("WHICH")
+        .value_parser(DIAGNOSTICS.as_slice())
+        .default_value("likely")
+        .help("Which faults the editor is sent: likely ones are told of calls that rustc would expand")
 }
 
 fn library<'a>(alloc: Global) -> Arg<'a>
@@ -213,19 +229,37 @@ fn language_command<'a>(
         .arg(scope(alloc))
 }
 
-// A subcommand with the options that each has.
-fn subcommand<'a>(alloc: Global, name: &'a str, about: &'a str) -> Result<Command<'a>, AllocError>
-    ensures shape { IfOk result (λ c. IsSubcommand name.now (shape_of c)) }
+// A command with the options that each subcommand has.
+fn options_command<'a>(
+    alloc: Global,
+    name: &'a str,
+    about: &'a str,
+) -> Result<Command<'a>, AllocError>
+    ensures shape { IfOk result (λ c. HasOptions name.now (shape_of c)) }
     ensures own { IfOk result (λ c. (fields_of c).has_globals ≡ false) }
 {
     language_command(alloc, name, about)?
         .arg(depth(alloc))?
         .arg(most_calls(alloc))?
-        .arg(most_tokens(alloc))?
-        .arg(file(alloc))
+        .arg(most_tokens(alloc))
 }
 
-// A subcommand on a text that may call the macros of other texts.
+// A command that takes definitions of other texts too, and options of `cfg`.
+fn others_command<'a>(
+    alloc: Global,
+    name: &'a str,
+    about: &'a str,
+) -> Result<Command<'a>, AllocError>
+    ensures shape { IfOk result (λ c. TakesOthers name.now (shape_of c)) }
+    ensures own { IfOk result (λ c. (fields_of c).has_globals ≡ false) }
+{
+    options_command(alloc, name, about)?
+        .arg(library(alloc))?
+        .arg(with(alloc))?
+        .arg(cfg(alloc))
+}
+
+// A subcommand on a text.
 fn text_subcommand<'a>(
     alloc: Global,
     name: &'a str,
@@ -234,10 +268,7 @@ fn text_subcommand<'a>(
     ensures shape { IfOk result (λ c. IsTextSubcommand name.now (shape_of c)) }
     ensures own { IfOk result (λ c. (fields_of c).has_globals ≡ false) }
 {
-    subcommand(alloc, name, about)?
-        .arg(library(alloc))?
-        .arg(with(alloc))?
-        .arg(cfg(alloc))
+    others_command(alloc, name, about)?.arg(file(alloc))
 }
 
 // The subcommand that prints an expansion.
@@ -260,6 +291,18 @@ fn macros_subcommand<'a>(alloc: Global) -> Result<Command<'a>, AllocError>
 {
     let about = "Lists the macros that files of a crate see, the nearest last";
     text_subcommand(alloc, "macros", about)?
+        .arg(other_crate(alloc))?
+        .arg(root(alloc))
+}
+
+// The subcommand that serves an editor.
+fn server_subcommand<'a>(alloc: Global) -> Result<Command<'a>, AllocError>
+    ensures shape { IfOk result (λ c. IsServerSubcommand (shape_of c)) }
+    ensures own { IfOk result (λ c. (fields_of c).has_globals ≡ false) }
+{
+    let about = "Serves an editor by the Language Server Protocol on standard input and output";
+    others_command(alloc, "lsp", about)?
+        .arg(diagnostics(alloc))?
         .arg(other_crate(alloc))?
         .arg(root(alloc))
 }
@@ -289,6 +332,7 @@ pub(crate) fn program<'a>(alloc: Global) -> Result<Command<'a>, AllocError>
     bare_program(alloc)?
         .subcommand(expand_subcommand(alloc)?)?
         .subcommand(text_subcommand(alloc, "explain", explain)?)?
+        .subcommand(server_subcommand(alloc)?)?
         .subcommand(macros_subcommand(alloc)?)?
         .subcommand(text_subcommand(alloc, "replay", replay)?)?
         .subcommand(text_subcommand(alloc, "view", view)?)

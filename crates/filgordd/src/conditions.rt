@@ -4,7 +4,9 @@ ghost use Rattle.cfg_options.specs.Options.{options_of};
 ghost use Rattle.expander.specs.NamedOptions.{no_options, with_named};
 ghost use Rattle.filgordd.specs.Conditions.{IsFirstWrong};
 
+use any_grammar::AnyGrammar;
 use cfg_options::{CfgFault, CfgOptions};
+use expander::{Dialect, Options};
 use std::alloc::{AllocError, Global};
 
 /// The set of the options that these words name, or the first word that sets none. Without a word
@@ -33,4 +35,23 @@ pub(crate) fn cfg_of<'a>(
         }
     }
     Ok(Ok(Some(options)))
+}
+
+/// The same options, where these are set for conditions.
+pub(crate) fn under(options: &Options<AnyGrammar>, cfg: Option<CfgOptions>) -> Options<AnyGrammar>
+    ensures { result ≡ record options.now { dialect = record options.now.dialect { cfg = cfg } } }
+{
+    let dialect = &options.dialect;
+    Options {
+        grammar: options.grammar,
+        edition: options.edition,
+        dialect: Dialect {
+            scope: dialect.scope,
+            items: dialect.items,
+            cfg,
+            limits: dialect.limits,
+            excuses: dialect.excuses,
+        },
+        depth: options.depth,
+    }
 }

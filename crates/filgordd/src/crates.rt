@@ -1,13 +1,13 @@
 //! Does a job on files of a crate.
 
-use crate::conditions::cfg_of;
+use crate::conditions::{cfg_of, under};
 use crate::job::{Action, Job};
 use crate::layout::{Run, laid_out, run_in_memory};
 use crate::warnings::warn;
 use any_grammar::AnyGrammar;
 use cfg_options::CfgOptions;
 use crate_walk::Content;
-use expander::{Dialect, Options, Prelude, Watched};
+use expander::{Options, Prelude, Watched};
 use expander_run::program::put;
 use program_files::{
     Chosen, Disk, Ended, Whole, chosen_files, code_in, fault_words, listed, misused, opened,
@@ -17,8 +17,8 @@ use std::alloc::{AllocError, Global};
 use std::process::ExitCode;
 use std::{env, io};
 
-// The set of the options that a job's words for `cfg` name: an empty one without a word.
-fn set_of(rt: &HostRuntime, job: &Job<'_>) -> Result<CfgOptions, Ended> {
+/// The set of the options that a job's words for `cfg` name: an empty one without a word.
+pub(crate) fn set_of(rt: &HostRuntime, job: &Job<'_>) -> Result<CfgOptions, Ended> {
     match cfg_of(rt.alloc(), job.cfg.as_slice())? {
         Ok(Some(set)) => Ok(set),
         Ok(None) => Ok(CfgOptions::new(rt.alloc())),
@@ -29,19 +29,7 @@ fn set_of(rt: &HostRuntime, job: &Job<'_>) -> Result<CfgOptions, Ended> {
 // The options of a job, for one more text.
 fn options_of(rt: &HostRuntime, job: &Job<'_>) -> Result<Options<AnyGrammar>, Ended> {
     let set = set_of(rt, job)?;
-    let dialect = &job.options.dialect;
-    Ok(Options {
-        grammar: job.options.grammar,
-        edition: job.options.edition,
-        dialect: Dialect {
-            scope: dialect.scope,
-            items: dialect.items,
-            cfg: Some(set),
-            limits: dialect.limits,
-            excuses: dialect.excuses,
-        },
-        depth: job.options.depth,
-    })
+    Ok(under(&job.options, Some(set)))
 }
 
 // The folder in which the program runs, or nothing where that is not told.
@@ -192,6 +180,20 @@ fn answer_file(
     }
 }
 
+/// The crate with this root, with what a job's words give of others. What cannot be followed is
+/// reported.
+pub(crate) fn walked(
+    rt: &HostRuntime,
+    job: &Job<'_>,
+    disk: &Disk<'_>,
+    root: &str,
+) -> Result<Whole, Ended> {
+    let whole = whole_from(rt, job.others(), disk, root)?;
+    let folder = folder_of(rt)?;
+    tell_lacks(rt, &whole.walked.modules, folder.as_str())?;
+    Ok(whole)
+}
+
 /// Does a job on the files of the crate with this root. The status is 0 if no file has a fault.
 pub(crate) fn perform_crate(
     rt: &HostRuntime,
@@ -200,10 +202,9 @@ pub(crate) fn perform_crate(
 ) -> Result<ExitCode, Ended> {
     let set = set_of(rt, job)?;
     let disk = Disk { rt, options: &set };
-    let whole = whole_from(rt, job.others(), &disk, root)?;
+    let whole = walked(rt, job, &disk, root)?;
     let modules = &whole.walked.modules;
     let folder = folder_of(rt)?;
-    tell_lacks(rt, modules, folder.as_str())?;
     let words = job.files.as_slice();
     let files = chosen_files(rt.alloc(), &disk, modules, words, folder.as_str())?;
     let mut faultless = true;

@@ -20,6 +20,8 @@ pub(crate) enum Action {
     Macros,
     /// It is answered as a script of edits and expansions.
     Replay,
+    /// An editor is served.
+    Serve,
     /// It is shown with its expansion, as an HTML page.
     View,
 }
@@ -33,10 +35,22 @@ pub(crate) fn action_of(name: &str) -> Option<Action>
         "expand" => Some(Action::Expand),
         "explain" => Some(Action::Explain),
         "macros" => Some(Action::Macros),
+        "lsp" => Some(Action::Serve),
         "replay" => Some(Action::Replay),
         "view" => Some(Action::View),
         _ => None,
     }
+}
+
+/// Which faults an editor is sent.
+#[derive(Clone, Copy, PartialEq, Eq)]
+pub(crate) enum Diagnostics {
+    /// All, those too of calls that rustc may never expand.
+    All,
+    /// Those of calls that rustc would expand.
+    Likely,
+    /// None.
+    Nothing,
 }
 
 /// A text, what is done with it, by which grammar, edition, dialect and number of levels, and
@@ -49,6 +63,8 @@ pub(crate) struct Job<'a> {
     pub(crate) layout: bool,
     /// Whether the reply is told as JSON.
     pub(crate) json: bool,
+    /// Which faults an editor is sent.
+    pub(crate) diagnostics: Diagnostics,
     /// The folder of the libraries whose definitions come first.
     pub(crate) library: Option<&'a str>,
     /// The words for the other files, in order.

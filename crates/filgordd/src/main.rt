@@ -1,5 +1,5 @@
 //! The program `filgordd`: it expands the macros of a text, explains the text's faults, shows the
-//! expansion as a page, or answers a script of edits and expansions.
+//! expansion as a page, or answers a script of edits and expansions, or an editor.
 #![tactic(auto)]
 
 mod command;
@@ -11,6 +11,8 @@ mod json;
 mod layout;
 mod place;
 mod request;
+mod server;
+mod uri;
 mod view;
 mod warned;
 mod warnings;

@@ -1,18 +1,18 @@
 //! Does what the program is asked for.
-ghost use Rattle.std.specs.Prelude.{◌≡◌};
 
-use crate::conditions::cfg_of;
+use crate::conditions::{cfg_of, under};
 use crate::crates::perform_crate;
 use crate::explain::explain;
 use crate::job::{Action, Job};
 use crate::json::expand_as_json;
 use crate::layout::expand_in_lines;
 use crate::place::{Place, named_place};
+use crate::server::serve_editor;
 use crate::view::view;
 use crate::warnings::warn;
 use any_grammar::AnyGrammar;
 use cfg_options::CfgOptions;
-use expander::{Dialect, Options, Prelude, Status, Watched, run_after};
+use expander::{Options, Prelude, Status, Watched, run_after};
 use program_files::{Ended, Others, blank_front, misused, opened, others_of, read_whole, stopped};
 use replay_script::{Answered, End, answer_script, wrong_words};
 use std::io;
@@ -173,7 +173,7 @@ fn work(
     let (file, place) = named_place(action, file);
     let task = Task {
         action,
-        options: under(options, cfg),
+        options: under(&options, cfg),
         layout,
         json,
         place,
@@ -184,37 +184,6 @@ fn work(
             Ok(file) => work_on(rt, task, others, path, file),
             Err(error) => misused(rt, path, &error),
         },
-    }
-}
-
-// The same options, where these are set for conditions.
-fn under(options: Options<AnyGrammar>, cfg: Option<CfgOptions>) -> Options<AnyGrammar>
-    ensures { result ≡ record options { dialect = record options.dialect { cfg = cfg } } }
-{
-    let Options {
-        grammar,
-        edition,
-        dialect,
-        depth,
-    } = options;
-    let Dialect {
-        scope,
-        items,
-        limits,
-        excuses,
-        ..
-    } = dialect;
-    Options {
-        grammar,
-        edition,
-        dialect: Dialect {
-            scope,
-            items,
-            cfg,
-            limits,
-            excuses,
-        },
-        depth,
     }
 }
 
@@ -229,6 +198,9 @@ fn ended(done: Result<ExitCode, Ended>) -> io::Result<ExitCode> {
 /// Does a job. The status is 2 where a word for `cfg` names no option, or one of its files cannot
 /// be opened.
 pub(crate) fn perform(rt: &HostRuntime, job: Job<'_>) -> io::Result<ExitCode> {
+    if job.action == Action::Serve {
+        return ended(serve_editor(rt, &job));
+    }
     if job.json && (job.layout || job.root.is_some()) {
         return misused(rt, "--json", &"it takes neither --layout nor --crate");
     }

@@ -39,6 +39,20 @@ fn numbers(alloc: Global, modules: &Modules) -> Result<BTreeMap<String, usize>, 
     Ok(numbers)
 }
 
+/// The number of the file of a crate that a path leads to, if it is one.
+pub(crate) fn file_at(
+    alloc: Global,
+    disk: &Disk<'_>,
+    modules: &Modules,
+    path: &str,
+) -> Result<Option<usize>, AllocError> {
+    let Some(name) = disk.find(alloc, path)? else {
+        return Ok(None);
+    };
+    let count = modules.file_count();
+    Ok((0..count).find(|file| modules.file_name(*file) == Some(name.as_str())))
+}
+
 // The files that words name.
 fn named_files(
     alloc: Global,

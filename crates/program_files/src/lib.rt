@@ -31,4 +31,4 @@ pub use load::{
 pub use shown::{one_line, push_shown};
 pub use source::blank_front;
 pub use walked::Walked;
-pub use whole::{Whole, prelude_of_file, whole_from};
+pub use whole::{Whole, prelude_of_file, prelude_of_path, whole_from};

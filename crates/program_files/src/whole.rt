@@ -1,5 +1,6 @@
 //! All that files of a crate are expanded after.
 
+use crate::chosen::file_at;
 use crate::disk::Disk;
 use crate::externs::{Extern, externs_of, push_event};
 use crate::imports::Import;
@@ -126,4 +127,18 @@ pub fn prelude_of_file(alloc: Global, whole: &Whole, file: usize) -> Result<Prel
         whole.push_import(alloc, import, &mut prelude)?;
     }
     Ok(prelude)
+}
+
+/// The definitions that the file of this path is expanded after, as `prelude_of_file` has them.
+/// Where it is no file of the crate, they are those of the library and of single files.
+pub fn prelude_of_path(
+    alloc: Global,
+    disk: &Disk<'_>,
+    whole: &Whole,
+    path: &str,
+) -> Result<Prelude, TtFault> {
+    match file_at(alloc, disk, &whole.walked.modules, path)? {
+        Some(file) => prelude_of_file(alloc, whole, file),
+        None => prelude_of(alloc, &whole.sources),
+    }
 }

@@ -4,5 +4,6 @@ pub mod Ranges
 pub mod Diagnostics
 pub mod OpenTexts
 pub mod Symbols
+pub mod Serving
 -- what the functions inside the crate promise each other
 pub mod Losses

@@ -11,15 +11,19 @@ use Rattle.expander_sources.specs.Sources.{range_of}
 use Rattle.tt_data.specs.Forest.{Forest}
 use Rattle.session_workspace.specs.Ranges.{range_data}
 
--- a definition: its name, what it is written with, 12 for a function, and where all of it and its
--- name are
-abbrev pub symbol : List ℕ → Definition → Data
-symbol text d =
+-- a definition whose bytes and whose name are at these ranges: its name, what it is written with, 12
+-- for a function, and the ranges
+abbrev pub symbol_at : (all name : Data) → Definition → Data
+symbol_at all name d =
     object (member (codes "detail")
     (string (if d.is_macro then codes "macro" else codes "macro_rules!"))
     (member (codes "kind") (number (unsigned 12)) (member (codes "name") (string d.name.sym)
-    (member (codes "range") (range_data text (range_of d.piece))
-    (member (codes "selectionRange") (range_data text d.name.span.range) no_members)))))
+    (member (codes "range") all (member (codes "selectionRange") name no_members)))))
+
+-- a definition where it is in a text
+abbrev pub symbol : List ℕ → Definition → Data
+symbol text d =
+    symbol_at (range_data text (range_of d.piece)) (range_data text d.name.span.range) d
 
 -- those among pieces, in order
 abbrev pub symbols_among : List ℕ → List Forest → List Data

@@ -9,8 +9,10 @@ mod names;
 mod open_text;
 mod outline;
 mod ranges;
+mod serving;
 mod setup;
 mod workspace;
 
+pub use serving::{end_words, serve_texts};
 pub use setup::Setup;
 pub use workspace::{SessionWorkspace, Shown};

@@ -5,9 +5,11 @@ ghost use Rattle.bridge.specs.ReadText.{IsRead, IsReadRefusal};
 ghost use Rattle.bridge.specs.TokenSteps.{text_steps};
 ghost use Rattle.expander_model.specs.Pieces.{cut};
 ghost use Rattle.expander_sources.specs.Sources.{end_behind, range_of};
-ghost use Rattle.session_workspace.specs.Symbols.{IsReadAs, ListsSymbols, symbol, symbols_among};
+ghost use Rattle.session_workspace.specs.Ranges.{IsSpot};
+ghost use Rattle.session_workspace.specs.Symbols.{IsReadAs, ListsSymbols, symbol, symbol_at};
+ghost use Rattle.session_workspace.specs.Symbols.{symbols_among};
 
-use crate::ranges::{START, range_value};
+use crate::ranges::{START, Spot, range_value};
 use bridge::Read;
 use expander_model::definition::{Definition, definition_of};
 use expander_model::relative_spans::start_of;
@@ -67,12 +69,15 @@ fn range_of(piece: &TtIter<'_>) -> TextRange
     }
 }
 
-fn symbol(alloc: Global, text: &str, definition: &Definition<'_>) -> Result<Value, AllocError>
-    requires { length text.now < 2 ^ 32 }
-    ensures { IfOk result (λ v. view v ≡ symbol text.now definition.now) }
+// A definition whose bytes and whose name are at these ranges.
+fn symbol_at(
+    alloc: Global,
+    definition: &Definition<'_>,
+    all: Value,
+    name: Value,
+) -> Result<Value, AllocError>
+    ensures { IfOk result (λ v. view v ≡ symbol_at (view all) (view name) definition.now) }
 {
-    let (range, _spot) = range_value(alloc, text, START, range_of(&definition.piece))?;
-    let (name_range, _spot) = range_value(alloc, text, START, definition.name.span.range)?;
     let word = if definition.is_macro {
         "macro"
     } else {
@@ -82,9 +87,28 @@ fn symbol(alloc: Global, text: &str, definition: &Definition<'_>) -> Result<Valu
         "name": definition.name.sym.as_str(),
         "detail": word,
         "kind": 12,
-        "range": range,
-        "selectionRange": name_range
+        "range": all,
+        "selectionRange": name
     })
+}
+
+// A definition, and the spot at which it begins. Places are counted on from `last` if that is not
+// past the begin.
+fn symbol(
+    alloc: Global,
+    text: &str,
+    last: Spot,
+    definition: &Definition<'_>,
+) -> Result<(Value, Spot), AllocError>
+    requires short { length text.now < 2 ^ 32 }
+    requires last { IsSpot text.now last }
+    ensures value { IfOk result (λ r. view r.0 ≡ symbol text.now definition.now) }
+    ensures spot { IfOk result (λ r. IsSpot text.now r.1) }
+{
+    let (all, first) = range_value(alloc, text, last, range_of(&definition.piece))?;
+    let (name, _spot) = range_value(alloc, text, first, definition.name.span.range)?;
+    let value = symbol_at(alloc, definition, all, name)?;
+    Ok((value, first))
 }
 
 // The definitions among the pieces of a list, in order.
@@ -93,10 +117,13 @@ fn symbols_in(alloc: Global, text: &str, list: &TtIter<'_>) -> Result<Vec<Value>
     ensures { IfOk result (λ all. map view all.items ≡ symbols_among text.now (cut list.now)) }
 {
     let mut symbols = Vec::new(alloc);
+    let mut last = START;
     let mut rest = list.copied();
     while let Some(piece) = next_piece(&mut rest) {
         if let Some(definition) = definition_of(&piece) {
-            symbols.push(symbol(alloc, text, &definition)?)?;
+            let (value, spot) = symbol(alloc, text, last, &definition)?;
+            symbols.push(value)?;
+            last = spot;
         }
     }
     Ok(symbols)

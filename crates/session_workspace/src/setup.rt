@@ -15,14 +15,15 @@ pub trait Setup {
     /// The options by which a text is expanded.
     fn options(&self, alloc: Global) -> Result<Options<AnyGrammar>, AllocError>;
 
-    /// The definitions of other texts that it is expanded after.
-    fn prelude(&self, alloc: Global) -> Result<Prelude, TtFault>;
+    /// The definitions of other texts that the text of this name is expanded after.
+    fn prelude(&self, alloc: Global, uri: &str) -> Result<Prelude, TtFault>;
 }
 
-/// A session over a text of at most `u32::MAX` bytes.
+/// A session over a text of at most `u32::MAX` bytes, which has this name.
 pub(crate) fn session_over<S: Setup>(
     alloc: Global,
     setup: &S,
+    uri: &str,
     text: &str,
 ) -> Result<Session<AnyGrammar>, Refusal>
     requires { length text.now < 2 ^ 32 }
@@ -35,6 +36,6 @@ pub(crate) fn session_over<S: Setup>(
         depth,
     } = setup.options(alloc)?;
     let mut session = Session::with_dialect(alloc, text, grammar, edition, dialect, depth)?;
-    session.set_prelude(setup.prelude(alloc)?);
+    session.set_prelude(setup.prelude(alloc, uri)?);
     Ok(session)
 }

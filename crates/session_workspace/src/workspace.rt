@@ -92,7 +92,7 @@ impl<S: Setup> SessionWorkspace<S> {
         if text.len() > u32::MAX as usize {
             return Err(Lost::TooLong);
         }
-        let session = session_over(self.alloc, &self.setup, text)?;
+        let session = session_over(self.alloc, &self.setup, uri, text)?;
         let uri = String::from_str(self.alloc, uri)?;
         Ok(OpenText {
             uri,

@@ -3,8 +3,8 @@ use Rattle.std.specs.Prelude.{codes}
 use Rattle.std.proofs.lemmas.Result.{IfOk-weaker}
 use Rattle.clap.specs.Simple.{App, Shape, shape_of}
 use Rattle.clap.specs.Walk.{Rule, rule_of}
-use Rattle.filgordd.specs.Commands.{file_rule, option_rule, with_more}
-use Rattle.filgordd.proofs.command.subcommand.Goals as goal
+use Rattle.filgordd.specs.Commands.{option_rule, with_more}
+use Rattle.filgordd.proofs.command.options_command.Goals as goal
 
 pub returns-clause-shape : goal.returns-clause-shape
 returns-clause-shape c =
@@ -15,14 +15,13 @@ returns-clause-shape c =
     let tokens = c.most_tokens.ensures.rule in
     let first = ap (λ (a : App). a.top) (c.in_ok-arg.ensures.shape c.depth.ensures.own) in
     let second = ap (λ (a : App). a.top) (c.in_ok-arg-2.ensures.shape c.most_calls.ensures.own) ∙ ap (with_more (rule_of c.most_calls.result)) first in
-    let third = ap (λ (a : App). a.top) (c.in_ok-arg-3.ensures.shape c.most_tokens.ensures.own) ∙ ap (with_more (rule_of c.most_tokens.result)) second in
-    IfOk-weaker c.arg-4.result _ _ (λ r h. record {
+    IfOk-weaker c.arg-3.result _ _ (λ r h. record {
       grammar = is.grammar;
       edition = is.edition;
       scope = is.scope;
       depth = levels.0;
       calls = calls.0;
       tokens = tokens.0;
-      shape_is = ap (λ (a : App). a.top) (h.shape c.file.ensures.own) ∙ ap (with_more (rule_of c.file.result)) third
-          ∙ (λ i. with_more (c.file.ensures.rule i) (with_more (tokens.1 i) (with_more (calls.1 i) (with_more (levels.1 i) (is.shape_is i)))));
-    }) c.arg-4.ensures
+      shape_is = ap (λ (a : App). a.top) (h.shape c.most_tokens.ensures.own) ∙ ap (with_more (rule_of c.most_tokens.result)) second
+          ∙ (λ i. with_more (tokens.1 i) (with_more (calls.1 i) (with_more (levels.1 i) (is.shape_is i))));
+    }) c.arg-3.ensures
