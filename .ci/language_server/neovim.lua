@@ -67,7 +67,8 @@ end
 -- What leaves a text in order, where it is put before a line or behind it.
 local whole = {
   "", " ", "x", "é", "𝕏 ", "\n", "{ a }", "swap!(p 𝕏);", "swap!(1);", "/* ü 🦀 */", " 'a ",
-  " \"🦀\"", "macro_rules! 𝕏y { ($a:tt) => { $a } }\n", "𝕏y!(q);\n", "𝕏y!();", "macro é($x:ident) { $x }\n",
+  " \"🦀\"", "macro_rules! 𝕏y { ($a:tt) => { $a } }\n", "𝕏y!(q);\n", "𝕏y!();",
+  "macro é($x:ident) { $x }\n",
 }
 
 local function add()
