@@ -80,13 +80,13 @@ pub(crate) fn serve_editor(rt: &HostRuntime, job: &Job<'_>) -> Result<ExitCode, 
     let texts = Texts {
         options: &job.options,
         cfg: job.cfg.as_slice(),
+        tells_all: job.diagnostics == Diagnostics::All,
         disk,
         given,
     };
-    let shown = if job.quiet {
-        Shown::Nothing
-    } else {
-        Shown::All
+    let shown = match job.diagnostics {
+        Diagnostics::Nothing => Shown::Nothing,
+        _ => Shown::All,
     };
     serve(rt, texts, shown)
 }
