@@ -1,8 +1,6 @@
 -- The search through rules for the first that fits.
-use Rattle.std.proofs.Common.{◌≡◌, refl, sym, ap, ◌∙◌, ℕ, zero, suc, ◌+◌, ◌-◌, ◌<◌, Bool, true, false, ◌||◌, List, [], ◌∷◌, map, length, get_or, drop, drop-cons, Option, Some, None, option_map, arith}
+use Rattle.std.proofs.Common.{◌≡◌, refl, sym, ap, ◌∙◌, ℕ, zero, suc, ◌+◌, ◌<◌, Bool, true, false, ◌||◌, List, [], ◌∷◌, map, length, get_or, drop, drop-cons, Option, Some, None, option_map, arith}
 use Rattle.std.specs.List.{list_any}
-use Rattle.std.specs.Prelude.{if◌then◌else◌, nat_lt}
-use Rattle.std.proofs.lemmas.Bool.Decides.{nat_tests}
 use Rattle.tt.specs.Tops.{Top}
 use Rattle.tt_data.specs.Forest.{Forest}
 use Rattle.tt_data.specs.declared.delimiter.Delimiter.{Delimiter}
@@ -15,6 +13,7 @@ use Rattle.mbe.specs.Bursts.{bursts}
 use Rattle.mbe.specs.PutOut.{if_unfit, left_of, put_out, rule_output}
 use Rattle.mbe.specs.Fit.{styled_fit, or_later, fit_from}
 use Rattle.mbe_matcher.specs.Grammar.{Grammar}
+use Rattle.mbe.proofs.LeftLemmas.{left_more, left_nothing, left_passed}
 
 or-false : (a b : Bool) → (a || b) ≡ false → (a ≡ false) × (b ≡ false)
 or-false true b e = absurd (cc e)
@@ -26,39 +25,6 @@ pub none-at : {A B : Type 0} (p : B → Bool) (f : A → B) (xs : List A) (i : �
 none-at p f [] i x h k e = absurd (omega arith)
 none-at p f (y ∷ xs) zero x h k e = ap (λ z. p (f z)) e ∙ (or-false (p (f y)) (list_any p (map f xs)) h).0
 none-at p f (y ∷ xs) (suc i) x h k e = none-at p f xs i x (or-false (p (f y)) (list_any p (map f xs)) h).1 (omega arith) e
-
--- ---- what is left of a limit
-
--- some are too many, so more are
-left_none : (m n k : ℕ) → left_of (Some m) n ≡ None → left_of (Some m) (n + k) ≡ None
-left_none m n k e = go (nat_lt m n) (nat_lt m (n + k)) (grind (arith, nat_tests)) e
-  where
-    go : (b c : Bool) → (b ≡ true → c ≡ true) → (if b then None else Some (Some (m - n))) ≡ None → (if c then None else Some (Some (m - (n + k)))) ≡ None
-    go true true h e = refl
-    go true false h e = absurd (cc (h refl))
-    go false c h e = absurd (cc e)
-
--- some are not, so more are as many behind them as are left
-left_some : (m n k : ℕ) (rest : Option ℕ) → left_of (Some m) n ≡ Some rest → left_of (Some m) (n + k) ≡ left_of rest k
-left_some m n k rest e = go (nat_lt m n) refl e
-  where
-    same : nat_lt m n ≡ false → (if nat_lt m (n + k) then None else Some (Some (m - (n + k)))) ≡ left_of (Some (m - n)) k
-    same h =
-        let less : m - (n + k) ≡ m - n - k = omega arith in
-        let both : nat_lt m (n + k) ≡ nat_lt (m - n) k = grind (arith, nat_tests) in
-        (λ i. if both i then None else Some (Some (less i)))
-
-    go : (b : Bool) → nat_lt m n ≡ b → (if b then None else Some (Some (m - n))) ≡ Some rest → left_of (Some m) (n + k) ≡ left_of rest k
-    go true h e = absurd (cc e)
-    go false h e = let is : Some (m - n) ≡ rest = cc e in same h ∙ ap (λ o. left_of o k) is
-
-pub left_passed : (most : Option ℕ) (n k : ℕ) → left_of most n ≡ None → left_of most (n + k) ≡ None
-left_passed None n k e = absurd (cc e)
-left_passed (Some m) n k e = left_none m n k e
-
-pub left_more : (most : Option ℕ) (n k : ℕ) (rest : Option ℕ) → left_of most n ≡ Some rest → left_of most (n + k) ≡ left_of rest k
-left_more None n k rest e = let is : None ≡ rest = cc e in ap (λ o. left_of o k) is
-left_more (Some m) n k rest e = left_some m n k rest e
 
 -- a rule's number and the tree that it gives
 abbrev numbered : ℕ → Top → Option (ℕ × Top)
@@ -133,10 +99,6 @@ module _ (is_identifier : List ℕ → Bool) (grammar : Grammar) (mark : Span �
   left-here most left rest rs i x f h e some fits from =
       sym (from ∙ ap (left_of left) (puts-out-at rs i x h e ∙ ap (λ o. rule_output is_identifier grammar mark style (rule_of x) argument + if_unfit o (put_out is_identifier grammar mark (map rule_of (drop (suc i) rs)) style argument)) (sym fits))
       ∙ left_more left _ 0 rest (sym some) ∙ left_nothing rest)
-    where
-      left_nothing : (o : Option ℕ) → left_of o 0 ≡ Some o
-      left_nothing None = refl
-      left_nothing (Some m) = refl
 
   -- or it does not
   pub left-there : (most left rest : Option ℕ) (rs : List Rule) (i : ℕ) (x : Rule) → i < length rs → x ≡ get_or rs i x →
