@@ -176,7 +176,7 @@ pub tried_over : (d : Numbered) (world : World Numbered) (depth : ℕ) (argument
     → IsTried world d depth argument (world.fit d argument)
 tried_over d world depth argument l e = go (world.broken d) depth e
   where
-    not_none : (o : Option Limits) {X : Type 0} → left_behind o [] ≡ None → X
+    not_none : {X : Type 0} → (o : Option Limits) → left_behind o [] ≡ None → X
     not_none None h = absurd (cc h)
     not_none (Some x) h = absurd (cc h)
 

@@ -15,13 +15,13 @@ or_true : (a : Bool) → (a || true) ≡ true
 or_true true = refl
 or_true false = refl
 
--- no tokens are left of limits: that is more than they say
-pub never_free : (l : Limits) (n : ℕ) {X : Type 0} → left_of (Some l.tokens) n ≡ Some None → X
-never_free l n {X} e = go (nat_lt l.tokens n) e
-  where
-    go : (b : Bool) → (if b then None else Some (Some (l.tokens - n))) ≡ Some None → X
-    go true e = absurd (cc e)
-    go false e = absurd (cc e)
+-- of a limit some number is left, or it is passed
+some_left : {X : Type 0} → (b : Bool) (m : ℕ) → (if b then None else Some (Some m)) ≡ Some None → X
+some_left true m e = absurd (cc e)
+some_left false m e = absurd (cc e)
+
+pub never_free : {X : Type 0} → (l : Limits) (n : ℕ) → left_of (Some l.tokens) n ≡ Some None → X
+never_free l n e = some_left (nat_lt l.tokens n) (l.tokens - n) e
 
 -- too many tokens were put out
 pub tokens_passed : (limits : Option Limits) (c n : ℕ) → left_of (tokens_in limits) n ≡ None → left_behind limits (sized c n) ≡ None
