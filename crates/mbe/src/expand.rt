@@ -96,7 +96,9 @@ impl DeclarativeMacro {
             (forest argument.entry) ≡ true }
     {
         let (list, keys) = (self.list(), self.keys());
-        let tried = first_fit(alloc, grammar, list, keys, call_style, argument, marker, bounds)?;
+        let tried = first_fit(
+            alloc, grammar, list, keys, call_style, argument, marker, bounds,
+        )?;
         let Some(Tried { given, left }) = tried else {
             return Ok(None);
         };

@@ -88,7 +88,10 @@ fn filled<M: Fn(Span) -> Span>(
     let left = left_behind(bounds.most, out.len());
     match ended {
         Transcribed::Whole => match out.build() {
-            Ok(tree) => Ok(Some(Tried { given: Some(tree), left })),
+            Ok(tree) => Ok(Some(Tried {
+                given: Some(tree),
+                left,
+            })),
             // A group is open, which a marker that is a function rules out.
             Err(_) => Ok(Some(Tried { given: None, left })),
         },
@@ -106,7 +109,10 @@ const USUAL_ROOM: usize = 960;
 fn unfit(bounds: Bounds) -> Tried<TopSubtree>
     ensures { result ≡ record { given = None; left = bounds.most } }
 {
-    Tried { given: None, left: bounds.most }
+    Tried {
+        given: None,
+        left: bounds.most,
+    }
 }
 
 // What one rule gives for an argument within bounds, whatever its style. `None` if it puts out too
@@ -283,7 +289,10 @@ pub(crate) fn first_fit<G: FragmentGrammar, M: Fn(Span) -> Span>(
     let name = name_key(argument);
     let mut left = bounds.most;
     for (number, rule) in list.iter().enumerate() {
-        let bounds = Bounds { most: left, ..bounds };
+        let bounds = Bounds {
+            most: left,
+            ..bounds
+        };
         let key = keys[number];
         let tried = styled_fit(
             alloc, grammar, style, rule, key, argument, name, marker, bounds,
@@ -293,7 +302,10 @@ pub(crate) fn first_fit<G: FragmentGrammar, M: Fn(Span) -> Span>(
         };
         left = rest;
         if let Some(tree) = given {
-            return Ok(Some(Tried { given: Some((number, tree)), left }));
+            return Ok(Some(Tried {
+                given: Some((number, tree)),
+                left,
+            }));
         }
     }
     Ok(Some(Tried { given: None, left }))
