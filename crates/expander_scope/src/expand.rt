@@ -242,7 +242,10 @@ fn fit<G: FragmentGrammar>(
         }
     };
     let top = Delimiter::invisible_spanned(place);
-    let bounds = Bounds { top, most: most_tokens(limits) };
+    let bounds = Bounds {
+        top,
+        most: most_tokens(limits),
+    };
     let argument = argument.remaining();
     let style = MacroCallStyle::FnLike;
     let tried = rules.fit_within(alloc, grammar, argument, &mark, style, bounds)?;
@@ -284,13 +287,26 @@ fn answer<G: FragmentGrammar>(
 {
     if known.rules.err().is_some() {
         let given = Err(FaultKind::BrokenDefinition);
-        return Ok(Some(Counted { given, left: limits }));
+        return Ok(Some(Counted {
+            given,
+            left: limits,
+        }));
     }
     if env.depth == 0 {
         let given = Err(FaultKind::RecursionLimit);
-        return Ok(Some(Counted { given, left: limits }));
+        return Ok(Some(Counted {
+            given,
+            left: limits,
+        }));
     }
-    let tried = fit(env.alloc, env.grammar, &known.rules, argument, place, limits)?;
+    let tried = fit(
+        env.alloc,
+        env.grammar,
+        &known.rules,
+        argument,
+        place,
+        limits,
+    )?;
     let Some(Counted { given, left }) = tried else {
         return Ok(None);
     };
