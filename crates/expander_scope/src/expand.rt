@@ -180,6 +180,16 @@ fn most_tokens(limits: Option<Limits>) -> Option<usize>
     }
 }
 
+// What a rule gives, without its number.
+fn without_number(given: Option<(u32, TopSubtree)>) -> Option<TopSubtree>
+    ensures { result ≡ option_map (λ r. r.1) given }
+{
+    match given {
+        None => None,
+        Some((_, tree)) => Some(tree),
+    }
+}
+
 // For how many calls one counts that gives this or nothing.
 fn calls_of(given: &Option<TopSubtree>) -> usize
     ensures { result ≡ calls_of (option_map (λ t. t.inner) given.now) }
@@ -252,10 +262,7 @@ fn fit<G: FragmentGrammar>(
     let Some(Tried { given, left }) = tried else {
         return Ok(None);
     };
-    let given = match given {
-        Some((_, tree)) => Some(tree),
-        None => None,
-    };
+    let given = without_number(given);
     let Some(left) = charge(limits, calls_of(&given), left) else {
         return Ok(None);
     };
@@ -299,14 +306,8 @@ fn answer<G: FragmentGrammar>(
             left: limits,
         }));
     }
-    let tried = fit(
-        env.alloc,
-        env.grammar,
-        &known.rules,
-        argument,
-        place,
-        limits,
-    )?;
+    let rules = &known.rules;
+    let tried = fit(env.alloc, env.grammar, rules, argument, place, limits)?;
     let Some(Counted { given, left }) = tried else {
         return Ok(None);
     };
@@ -903,14 +904,15 @@ fn expand_call<'a, G: FragmentGrammar, S: EventSink>(
                 return Ok(stop_at(env.alloc, outer, search, walk, call, at)?);
             }
             pass_call(env.dialect, walk, call);
+            Ok(true)
         }
         Err(kind) => {
             search.left = left_within(outer, left);
             let told = told_of(env.dialect, walk.standing, kind, at);
             stay(env.alloc, outer, search, walk, call, told)?;
+            Ok(true)
         }
     }
-    Ok(true)
 }
 
 // Searches a list for calls and definitions, and the lists in its groups. Each event gets `outer`,
