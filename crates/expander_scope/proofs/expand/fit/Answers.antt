@@ -15,11 +15,11 @@ use Rattle.expander_scope.specs.Spending.{left_behind}
 use Rattle.expander_scope.proofs.expand.fit.Goals as goal
 
 -- the trees of what a rule gives
-inner_of : (top : Delimiter) (o : Option (ℕ × Forest)) (given : Option (ℕ × Top)) → given ≡ option_map (λ r. (r.0, within top r.1)) o
-    → option_map (λ (t : Top). t.inner) (option_map (λ r. r.1) given) ≡ option_map (λ r. r.1) o
-inner_of top o given e = ap (λ (x : Option (ℕ × Top)). option_map (λ (t : Top). t.inner) (option_map (λ r. r.1) x)) e ∙ go o
+inner_of : (top : Delimiter) (o : Option (ℕ × Forest)) (given : Option (ℕ × Top)) → given ≡ option_map (λ (r : ℕ × Forest). (r.0, within top r.1)) o
+    → option_map (λ (t : Top). t.inner) (option_map (λ (r : ℕ × Top). r.1) given) ≡ option_map (λ (r : ℕ × Forest). r.1) o
+inner_of top o given e = ap (λ (x : Option (ℕ × Top)). option_map (λ (t : Top). t.inner) (option_map (λ (r : ℕ × Top). r.1) x)) e ∙ go o
   where
-    go : (o : Option (ℕ × Forest)) → option_map (λ (t : Top). t.inner) (option_map (λ r. r.1) (option_map (λ r. (r.0, within top r.1)) o)) ≡ option_map (λ r. r.1) o
+    go : (o : Option (ℕ × Forest)) → option_map (λ (t : Top). t.inner) (option_map (λ (r : ℕ × Top). r.1) (option_map (λ (r : ℕ × Forest). (r.0, within top r.1)) o)) ≡ option_map (λ (r : ℕ × Forest). r.1) o
     go None = refl
     go (Some r) = refl
 
