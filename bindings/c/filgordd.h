@@ -130,7 +130,7 @@ enum filgordd_reading_fault_kind {
 
 /* What a session is opened with: an edition, 2015, 2018, 2021 or 2024; a grammar and rules of scopes, of the enums
  * above; how many levels of calls are expanded; how many calls may be expanded for one call of the text, itself among
- * them, and how many tokens their results may have together, each 0 for no limit. A call that makes more stays. */
+ * them, and how many tokens rules may put out for it, each 0 for no limit. A call that makes more stays. */
 struct filgordd_options {
     uint32_t edition, grammar, scope;
     uint8_t depth;

@@ -504,8 +504,8 @@ class Session:
     ...     session.expand().printed
     '# [ cfg ( a ) ] mod m { }\\n'
 
-    At most `most_calls` calls are expanded for one call of the text, itself among them, and their
-    results have at most `most_tokens` tokens together; 0 is no limit. A call that makes more stays.
+    At most `most_calls` calls are expanded for one call of the text, itself among them, and rules
+    put out at most `most_tokens` tokens for it; 0 is no limit. A call that makes more stays.
 
     >>> with Session("macro_rules! w { () => { w!{} w!{} } } w!{}", most_calls=1000) as session:
     ...     expansion = session.expand()

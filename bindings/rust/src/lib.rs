@@ -97,7 +97,7 @@ pub struct Options<'a> {
     /// How many calls may be expanded for one call of the text, itself among them. A call that makes
     /// more stays. With `None` there is no limit.
     pub most_calls: Option<NonZeroUsize>,
-    /// How many tokens their results may have together, those in between too.
+    /// How many tokens rules may put out for it and for the calls in its results.
     pub most_tokens: Option<NonZeroUsize>,
 }
 

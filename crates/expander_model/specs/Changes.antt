@@ -33,6 +33,7 @@ pub record Changes {D E : Type 0} (f : Span → Span) (h : D → E) (one : World
   pub broken : (d : D) → two.broken (h d) ≡ one.broken d
   pub fit : (d : D) (a : Forest) → two.fit (h d) (map_spans f a)
       ≡ option_map (map_spans f) (one.fit d a)
+  pub put_out : (d : D) (a : Forest) → two.put_out (h d) (map_spans f a) ≡ one.put_out d a
   pub bursts : (d : D) (a : Forest) → two.bursts (h d) (map_spans f a) ≡ one.bursts d a
 
 -- h is applied to what each name resolves to

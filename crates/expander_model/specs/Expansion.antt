@@ -18,10 +18,13 @@ pub record PlacedStep : Type 0 where
   pub outer : Option Span
 
 -- what definitions mean: which are invalid, the forest that a definition gives for a call's
--- argument, or none, and where that makes too many tokens; and by which options a text is expanded
+-- argument, or none, how many tokens its rules put out for it, and where these are too many; and by
+-- which options a text is expanded
 pub record World (D : Type 0) : Type 0 where
   pub broken : D → Bool
   pub fit : D → Forest → Option Forest
+  -- how many tokens the rules put out that are tried for a call of a definition with this argument
+  pub put_out : D → Forest → ℕ
   -- whether a call of a definition with this argument makes more tokens than a tree may have
   pub bursts : D → Forest → Bool
   pub dialect : Dialect

@@ -88,6 +88,7 @@ abbrev pub numbered_world : World Definition → World Numbered
 numbered_world world = record {
   broken = λ d. world.broken (anchored_definition d);
   fit = λ d argument. world.fit (anchored_definition d) argument;
+  put_out = λ d argument. world.put_out (anchored_definition d) argument;
   bursts = λ d argument. world.bursts (anchored_definition d) argument;
   dialect = world.dialect;
 }

@@ -1,6 +1,7 @@
 -- How much one outermost call may make: how many calls are replaced for it, itself among them, and
--- how many tokens their results have, those in between too. (Of this project.)
-use Rattle.std.specs.Prelude.{ℕ, zero, suc, ◌-◌, Bool, true, false, ◌||◌, List, [], ◌∷◌, ◌++◌, Option, Some, None, option_map, nat_eq, nat_lt, if◌then◌else◌}
+-- how many tokens rules put out for it: for each call that is tried, those of the rules up to the
+-- first that fits, be the call replaced or not. (Of this project.)
+use Rattle.std.specs.Prelude.{ℕ, zero, suc, ◌-◌, Bool, true, false, ◌||◌, List, [], ◌∷◌, ◌++◌, Option, Some, None, option_map, nat_lt, if◌then◌else◌}
 use Rattle.tt_data.specs.Forest.{Forest, size}
 use Rattle.expander_model.specs.Definitions.{Definition}
 use Rattle.expander_model.specs.Expansion.{World, Outcome, CallSite, stays}
@@ -10,11 +11,12 @@ use Rattle.expander_model.specs.declared.limits.Limits.{Limits}
 use Rattle.expander_model.specs.declared.scope_rules.Standing.TheVariants.{Top}
 use Rattle.expander_model.specs.Scoping.{Around, Scoped, Search, Attempt, Expander, attempt, only, scoped, search_list, without_locals}
 
--- what is noted of an expansion, in order, beside what it looks up: the size of each result, and
--- each call for which a rule puts out more tokens than a tree may have
+-- what is noted of an expansion, in order, beside what it looks up: of each call that is tried, for
+-- how many calls it counts and how many tokens rules put out for it; and each call for which a rule
+-- puts out more tokens than a tree may have
 pub data Noted (D : Type 0) : Type 0 where
   definition : D → Noted D
-  result : ℕ → Noted D
+  tried : (calls tokens : ℕ) → Noted D
   burst : Noted D
 
 -- what definitions mean, where notes are among them: a note is no macro
@@ -26,6 +28,10 @@ abbrev pub noted_fit : {D : Type 0} → World D → Noted D → Forest → Optio
 noted_fit world (definition d) argument = world.fit d argument
 noted_fit world _ argument = None
 
+abbrev pub noted_put_out : {D : Type 0} → World D → Noted D → Forest → ℕ
+noted_put_out world (definition d) argument = world.put_out d argument
+noted_put_out world _ argument = 0
+
 abbrev pub noted_bursts : {D : Type 0} → World D → Noted D → Forest → Bool
 noted_bursts world (definition d) argument = world.bursts d argument
 noted_bursts world _ argument = false
@@ -35,6 +41,7 @@ abbrev pub noted_world : {D : Type 0} → World D → World (Noted D)
 noted_world world = record {
   broken = noted_broken world;
   fit = noted_fit world;
+  put_out = noted_put_out world;
   bursts = noted_bursts world;
   dialect = world.dialect;
 }
@@ -43,15 +50,20 @@ noted_world world = record {
 abbrev pub Notes : Type 0 → Type 0
 Notes D = List (List ℕ × Option (Noted D))
 
--- the note of what a call gives, if it gives something
-abbrev pub size_note : {D : Type 0} → Option Forest → Notes D
-size_note None = []
-size_note (Some f) = ([], Some (result (size f))) ∷ []
+-- for how many calls one counts that gives this or nothing
+abbrev pub calls_of : Option Forest → ℕ
+calls_of None = 0
+calls_of (Some f) = 1
 
--- the notes of a call for which a rule puts out too much or not, and which gives this or nothing
-abbrev pub note_of : {D : Type 0} → Bool → Option Forest → Notes D
-note_of true given = ([], Some burst) ∷ size_note given
-note_of false given = size_note given
+-- the note of a call that counts for so many, and for which rules put out so many tokens
+abbrev pub sized : {D : Type 0} → (calls tokens : ℕ) → Notes D
+sized calls tokens = ([], Some (tried calls tokens)) ∷ []
+
+-- the notes of a call for which a rule puts out too much or not, which gives this or nothing, and
+-- for which rules put out so many tokens
+abbrev pub note_of : {D : Type 0} → Bool → Option Forest → ℕ → Notes D
+note_of true given tokens = ([], Some burst) ∷ sized (calls_of given) tokens
+note_of false given tokens = sized (calls_of given) tokens
 
 -- a result with notes before its own
 abbrev pub noting : {D : Type 0} → Notes D → Scoped (Noted D) → Scoped (Noted D)
@@ -63,7 +75,7 @@ noting {D} notes a =
 abbrev pub looked_in : {D : Type 0} → Notes D → List (List ℕ × Option D)
 looked_in [] = []
 looked_in ((key, Some (definition d)) ∷ notes) = (key, Some d) ∷ looked_in notes
-looked_in ((key, Some (result n)) ∷ notes) = looked_in notes
+looked_in ((key, Some (tried c n)) ∷ notes) = looked_in notes
 looked_in ((key, Some burst) ∷ notes) = looked_in notes
 looked_in ((key, None) ∷ notes) = (key, None) ∷ looked_in notes
 
@@ -100,9 +112,9 @@ abbrev pub until_passed : {D : Type 0} → ℕ → ℕ → Notes D → Option (P
 until_passed calls tokens [] = None
 until_passed calls tokens ((key, Some burst) ∷ notes) =
     option_map burst_before (until_passed calls tokens notes)
-until_passed calls tokens ((key, Some (result n)) ∷ notes) =
-    if nat_eq calls 0 || nat_lt tokens n then Some passed_at_once
-    else until_passed (calls - 1) (tokens - n) notes
+until_passed calls tokens ((key, Some (tried c n)) ∷ notes) =
+    if nat_lt calls c || nat_lt tokens n then Some passed_at_once
+    else until_passed (calls - c) (tokens - n) notes
 until_passed calls tokens ((key, Some (definition d)) ∷ notes) =
     option_map (found_before (key, Some d)) (until_passed calls tokens notes)
 until_passed calls tokens ((key, None) ∷ notes) =
@@ -138,7 +150,8 @@ module _ {D : Type 0} (dialect : Dialect) (world : World D) (local : Definition 
   noted_attempt search d around site =
       let a : Attempt (Noted D) = plain_attempt search d around site in
       let note : Notes D =
-      note_of (noted_bursts world d site.argument) (noted_fit world d site.argument) in
+      note_of (noted_bursts world d site.argument) (noted_fit world d site.argument)
+      (noted_put_out world d site.argument) in
       record a { given = noting note a.given }
 
   -- the expansion of a list with n levels left, with its notes among its look-ups

@@ -27,5 +27,7 @@ pub record LooksAtNoPlace (world : World Definition) : Type 0 where
   pub fit : (f : Span → Span) → CommutesWithMarker f → (d : Definition) (argument : Forest)
       → world.fit (definition_with f d) (map_spans f argument)
       ≡ option_map (map_spans f) (world.fit d argument)
+  pub put_out : (f : Span → Span) → CommutesWithMarker f → (d : Definition) (argument : Forest)
+      → world.put_out (definition_with f d) (map_spans f argument) ≡ world.put_out d argument
   pub bursts : (f : Span → Span) → CommutesWithMarker f → (d : Definition) (argument : Forest)
       → world.bursts (definition_with f d) (map_spans f argument) ≡ world.bursts d argument

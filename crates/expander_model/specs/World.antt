@@ -8,6 +8,7 @@ use Rattle.mbe_rules.specs.Items.{Rules}
 use Rattle.mbe_rules.specs.Parsing.{macro_of, macro_rules_of}
 use Rattle.mbe_rules.specs.declared.macro_call_style.MacroCallStyle.TheVariants.{FnLike}
 use Rattle.mbe.specs.Bursts as made_by
+use Rattle.mbe.specs.PutOut as counted
 use Rattle.mbe.specs.Fit.{fit}
 use Rattle.mbe.specs.Grammar.{Grammar}
 use Rattle.mbe.specs.Markers.{is_name}
@@ -40,6 +41,8 @@ abbrev pub world : Grammar → Edition → Dialect → World Definition
 world grammar edition dialect = record {
   broken = λ d. is_some (rules_in edition d).err;
   fit = λ d argument. fit_of grammar (rules_in edition d) argument;
+  put_out = λ d argument. counted.put_out is_name grammar made
+      (rules_in edition d).list FnLike argument;
   bursts = λ d argument. made_by.bursts is_name grammar made
       (rules_in edition d).list FnLike argument;
   dialect = dialect;

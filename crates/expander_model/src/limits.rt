@@ -5,6 +5,7 @@
 pub struct Limits {
     /// How many calls are replaced for it, itself among them.
     pub calls: usize,
-    /// How many tokens their results have, those in between too. A group counts as one.
+    /// How many tokens rules put out for it: for each call that is tried, those of the rules up to
+    /// the first that fits, before a fault too. A group counts as one.
     pub tokens: usize,
 }

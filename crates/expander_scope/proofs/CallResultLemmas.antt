@@ -14,7 +14,7 @@ use Rattle.expander_model.specs.Expansion.{World, Outcome, CallSite, PlacedStep,
 use Rattle.expander_model.specs.Held.{Numbered, unnumbered}
 use Rattle.expander_model.specs.PieceStates.{after_call}
 use Rattle.expander_model.specs.Scoping.{Around, Attempt, Scoped, Expander, at_call, at_key, fitted, found_at, in_brackets, is_alone_in, is_replaced, kept_call, looked_up, only, scoped, stays_in, unbroken, without_locals}
-use Rattle.expander_model.specs.Limits.{expanded, outermost, Noted, Notes, Passed, definition, limited, looked_in, note_of, noted, noted_world, unnoted, until_passed, within}
+use Rattle.expander_model.specs.Limits.{calls_of, expanded, outermost, Noted, Notes, Passed, definition, limited, looked_in, note_of, noted, noted_world, sized, unnoted, until_passed, within}
 use Rattle.expander_model.specs.declared.limits.Limits.{Limits}
 use Rattle.expander_model.specs.declared.begun.Begun.{Begun}
 use Rattle.expander_model.specs.declared.dialect.Dialect.{Dialect}
@@ -23,8 +23,8 @@ use Rattle.expander_model.specs.declared.scope_rules.Standing.TheVariants.{Argum
 use Rattle.expander_model.specs.declared.fault.FaultKind.{FaultKind}
 use Rattle.expander_model.specs.declared.fault.FaultKind.TheVariants.{CannotExpand, BrokenDefinition, RecursionLimit, TooLarge}
 use Rattle.textual_scope.proofs.NoteLemmas.{SameFrom, looked_in-append, unnoted-list, unnoted-noted}
-use Rattle.expander_scope.specs.Expanding.{Levels, Adds, Expands, among_notes, answer, answer_at, as_noted, deeper_at, expander_by, makes_too_many, noted_by, noted_local, noted_scope, searched}
-use Rattle.expander_scope.specs.Spending.{BurstsFirst, Spends, notes_with, passing}
+use Rattle.expander_scope.specs.Expanding.{Levels, Adds, Expands, among_notes, answer, answer_at, as_noted, deeper_at, expander_by, makes_too_many, noted_by, noted_local, noted_scope, searched, trial, trial_at}
+use Rattle.expander_scope.specs.Spending.{BurstsFirst, Spends, left_behind, notes_with, passing}
 use Rattle.expander_scope.specs.ListsLeft.{IsAhead, IsOutAhead, Left, Place, all_left, groups_left, in_list, list_left, then_left}
 use Rattle.expander_scope.specs.Outcomes.{find_of, parts_of}
 use Rattle.expander_scope.specs.Sinks.{TakesMore}
@@ -33,7 +33,7 @@ use Rattle.expander_scope.specs.declared.expand.Expanding.{Expanding}
 use Rattle.expander_scope.proofs.ListLemmas.{IsPlain, called_in, here_in, left_call, passed_in, scoped_is, takes_in, then_assoc}
 use Rattle.expander_scope.proofs.OutcomeLemmas.{or_false, or_first, or_later}
 use Rattle.expander_scope.proofs.SinkLemmas.{takes_both}
-use Rattle.expander_scope.proofs.SpendingLemmas.{bursts_here, bursts_note, none_passed_note, passing_note, spends_none, spends_nothing}
+use Rattle.expander_scope.proofs.SpendingLemmas.{Charged, bursts_here, bursts_note, charged_nothing, none_passed_note, passing_note, spends_note, spends_same}
 use Rattle.expander_scope.proofs.TurnLemmas.{IsCall, is_open, names_alone, joined_call, visible_call}
 
 -- look-ups and notes alone
@@ -46,11 +46,9 @@ lookups_among ((key, Some d) ∷ xs) ys = ap (λ fs. (key, Some d) ∷ fs) (look
 lookups_among ((key, None) ∷ xs) ys = ap (λ fs. (key, None) ∷ fs) (lookups_among xs ys)
 
 -- the note of a call is no look-up
-pub no_lookups : (b : Bool) (given : Option Forest) → looked_in {D = Numbered} (note_of b given) ≡ []
-no_lookups true None = refl
-no_lookups true (Some g) = refl
-no_lookups false None = refl
-no_lookups false (Some g) = refl
+pub no_lookups : (b : Bool) (given : Option Forest) (n : ℕ) → looked_in {D = Numbered} (note_of b given n) ≡ []
+no_lookups true given n = refl
+no_lookups false given n = refl
 
 -- ---- what is added
 
@@ -154,6 +152,40 @@ fits d world depth argument g e = go (world.broken d) depth (world.fit d argumen
     go false (suc n) None e = absurd (cc e)
     go false (suc n) (Some h) e = (refl, ap Some (let is : h ≡ g = cc e in is))
 
+-- a call of a valid definition with a level left, whose rules give this
+abbrev pub IsTried : World Numbered → Numbered → ℕ → Forest → Option Forest → Type 0
+IsTried world d depth argument o = (world.broken d ≡ false) × ((world.fit d argument ≡ o) × (0 < depth))
+
+pub tried_ok : (d : Numbered) (world : World Numbered) (depth : ℕ) (argument g : Forest) → answer world d depth argument ≡ Ok g → IsTried world d depth argument (Some g)
+tried_ok d world depth argument g e =
+    let (b, f) = fits d world depth argument g e in (b, (f, deep d world depth argument g e))
+
+-- its note
+pub tried_note : (d : Numbered) (world : World Numbered) (depth : ℕ) (argument : Forest) (o : Option Forest) → IsTried world d depth argument o
+    → trial world d depth argument ≡ sized (calls_of o) (world.put_out d argument)
+tried_note d world depth argument o is =
+    ap (λ x. if x then [] else trial_at depth (world.fit d argument) (world.put_out d argument)) is.0 ∙ ap (λ x. trial_at depth x (world.put_out d argument)) is.1.0
+    ∙ go depth is.1.1
+  where
+    go : (n : ℕ) → 0 < n → trial_at n o (world.put_out d argument) ≡ sized (calls_of o) (world.put_out d argument)
+    go zero less = absurd (omega (arith, less))
+    go (suc n) less = refl
+
+-- where a limit is passed at a call, the call is one
+pub tried_over : (d : Numbered) (world : World Numbered) (depth : ℕ) (argument : Forest) (l : Option Limits) → left_behind l (trial world d depth argument) ≡ None
+    → IsTried world d depth argument (world.fit d argument)
+tried_over d world depth argument l e = go (world.broken d) depth e
+  where
+    not_none : {X : Type 0} → (o : Option Limits) → left_behind o [] ≡ None → X
+    not_none None h = absurd (cc h)
+    not_none (Some x) h = absurd (cc h)
+
+    go : (broken : Bool) (n : ℕ) → left_behind l (if broken then [] else trial_at n (world.fit d argument) (world.put_out d argument)) ≡ None
+        → (broken ≡ false) × ((world.fit d argument ≡ world.fit d argument) × (0 < n))
+    go true n h = not_none l h
+    go false zero h = not_none l h
+    go false (suc n) h = (refl, (refl, omega arith))
+
 module _ (dialect : Dialect) (world : World Numbered) (scope : List ℕ → Option Numbered) (d : Numbered) (around : Around) (site : CallSite) where
   abbrev expander : Option Limits → ℕ → Option (Expander (Noted Numbered))
   expander limits depth = expander_by dialect world scope limits depth
@@ -176,6 +208,15 @@ module _ (dialect : Dialect) (world : World Numbered) (scope : List ℕ → Opti
   abbrev pub bursts : Bool
   bursts = world.bursts d site.argument
 
+  -- what its rules put out
+  abbrev pub put : ℕ
+  put = world.put_out d site.argument
+
+  -- the notes of what it gives
+  abbrev pub behind_of : ℕ → Option Forest → Notes Numbered
+  behind_of depth None = []
+  behind_of depth (Some g) = (deeper depth g).outcome.finds
+
   -- behind its note, and with what it makes of too many tokens
   abbrev pub with_note : Notes Numbered → Bool → Scoped (Noted Numbered) → Scoped (Noted Numbered)
   with_note notes b a = record a { outcome = followed_by (looks notes) (bursting b a.outcome) }
@@ -186,7 +227,7 @@ module _ (dialect : Dialect) (world : World Numbered) (scope : List ℕ → Opti
 
   -- what a call is that gives this, which was searched so: where it is an outermost one by limits, its look-ups are all that is noted
   abbrev pub made_of : Option Limits → Forest → Scoped (Noted Numbered) → Scoped (Noted Numbered)
-  made_of None g a = with_note (note_of bursts (Some g)) bursts a
+  made_of None g a = with_note (note_of bursts (Some g) put) bursts a
   made_of (Some limits) g a = with_looks bursts (unnoted a)
 
   -- ---- without limits
@@ -194,7 +235,7 @@ module _ (dialect : Dialect) (world : World Numbered) (scope : List ℕ → Opti
   -- what it gives in the end, where its rules give this
   abbrev given_by : ℕ → Option Forest → Scoped (Noted Numbered)
   given_by n o =
-      with_note (note_of bursts o) bursts
+      with_note (note_of bursts o put) bursts
       (fitted dialect (noted_world world) noted_local (noted_scope scope) (noted dialect world unnumbered scope n) around site o)
 
   -- ---- by limits
@@ -202,7 +243,7 @@ module _ (dialect : Dialect) (world : World Numbered) (scope : List ℕ → Opti
   -- the notes of what it gives
   abbrev notes_by : ℕ → Option Forest → Notes Numbered
   notes_by n o =
-      note_of bursts o ++ (fitted dialect (noted_world world) noted_local (noted_scope scope) (noted dialect world unnumbered scope n) around site o).outcome.finds
+      note_of bursts o put ++ (fitted dialect (noted_world world) noted_local (noted_scope scope) (noted dialect world unnumbered scope n) around site o).outcome.finds
 
   abbrev plainly : ℕ → Option Forest → Attempt Numbered
   plainly n o =
@@ -216,13 +257,9 @@ module _ (dialect : Dialect) (world : World Numbered) (scope : List ℕ → Opti
   abbrev passed_by : Limits → ℕ → Option Forest → Option (Passed Numbered)
   passed_by limits n o = until_passed limits.calls limits.tokens (notes_by n o)
 
-  -- a call that gives nothing passes none
-  nothing_passed : (limits : Limits) (n : ℕ) → passed_by limits n None ≡ None
-  nothing_passed limits n = go bursts
-    where
-      go : (b : Bool) → until_passed limits.calls limits.tokens (note_of {D = Numbered} b None ++ []) ≡ None
-      go true = refl
-      go false = refl
+  -- a call that gives nothing passes none if its own note does not
+  nothing_passed : (limits : Limits) (n : ℕ) → passing (Some limits) (sized 0 put) ≡ None → passed_by limits n None ≡ None
+  nothing_passed limits n free = none_passed_note (Some limits) bursts None put [] free
 
   -- what it gives is searched so
   result_noted : (n : ℕ) (g : Forest) → noted dialect world unnumbered scope n inner g ≡ deeper (suc n) g
@@ -234,79 +271,89 @@ module _ (dialect : Dialect) (world : World Numbered) (scope : List ℕ → Opti
   result_plain : (n : ℕ) (g : Forest) → scoped dialect world unnumbered scope n inner g ≡ unnoted (deeper (suc n) g)
   result_plain n g = sym (unnoted-noted dialect world unnumbered scope n inner g) ∙ ap unnoted (result_noted n g)
 
-  passed_is : (limits : Limits) (n : ℕ) (g : Forest) → passed_by limits n (Some g) ≡ passing (Some limits) (note_of bursts (Some g) ++ (deeper (suc n) g).outcome.finds)
-  passed_is limits n g = ap (λ (a : Scoped (Noted Numbered)). until_passed limits.calls limits.tokens (note_of bursts (Some g) ++ a.outcome.finds)) (result_noted n g)
+  passed_is : (limits : Limits) (n : ℕ) (o : Option Forest) → passed_by limits n o ≡ passing (Some limits) (note_of bursts o put ++ behind_of (suc n) o)
+  passed_is limits n None = refl
+  passed_is limits n (Some g) = ap (λ (a : Scoped (Noted Numbered)). until_passed limits.calls limits.tokens (note_of bursts (Some g) put ++ a.outcome.finds)) (result_noted n g)
 
   -- ---- a call that stays
 
-  -- a call stays with a fault, behind notes that are no look-ups and that cost nothing
-  pub record Stays (a : Scoped (Noted Numbered)) (kind : FaultKind) : Type 0 where
+  -- a call stays with a fault, behind notes that are no look-ups, and that are spent
+  pub record Stays (left rest : Option Limits) (a : Scoped (Noted Numbered)) (kind : FaultKind) : Type 0 where
     pub much : Bool
     pub notes : Notes Numbered
     pub unlooked : looked_in notes ≡ []
-    pub free : (l : Option Limits) → Spends l l notes
+    pub spent : Spends left rest notes
     pub is : a ≡ only (followed_by (looks notes) (bursting much (stays_in dialect kind around site)))
 
-  stays_plainly : (kind' kind : FaultKind) → kind' ≡ kind → Stays (only (stays_in dialect kind' around site)) kind
-  stays_plainly kind' kind is = record { much = false; notes = []; unlooked = refl; free = spends_nothing; is = ap (λ k. only (stays_in dialect k around site)) is }
+  stays_plainly : (limits left rest : Option Limits) → Charged limits left rest [] → (kind' kind : FaultKind) → kind' ≡ kind → Stays left rest (only (stays_in dialect kind' around site)) kind
+  stays_plainly limits left rest h kind' kind is =
+      record { much = false; notes = []; unlooked = refl; spent = charged_nothing limits left rest h; is = ap (λ k. only (stays_in dialect k around site)) is }
 
-  stays_at : (broken : Bool) (limits : Option Limits) (depth : ℕ) (given : Option Forest) (kind : FaultKind) → world.fit d site.argument ≡ given
-      → (if broken then Err BrokenDefinition else answer_at depth given) ≡ Err kind → Stays (of_call broken limits depth) kind
-  stays_at true limits depth given kind fits e = stays_plainly BrokenDefinition kind (cc e)
-  stays_at false limits zero given kind fits e = stays_plainly RecursionLimit kind (cc e)
-  stays_at false None (suc n) None kind fits e =
+  -- its note, where its definition is valid or not, and its rules give this
+  abbrev trial_by : Bool → ℕ → Option Forest → Notes Numbered
+  trial_by broken depth given = if broken then [] else trial_at depth given put
+
+  stays_at : (broken : Bool) (limits left rest : Option Limits) (depth : ℕ) (given : Option Forest) (kind : FaultKind) → world.fit d site.argument ≡ given
+      → Charged limits left rest (trial_by broken depth given)
+      → (if broken then Err BrokenDefinition else answer_at depth given) ≡ Err kind → Stays left rest (of_call broken limits depth) kind
+  stays_at true limits left rest depth given kind fits h e = stays_plainly limits left rest h BrokenDefinition kind (cc e)
+  stays_at false limits left rest zero given kind fits h e = stays_plainly limits left rest h RecursionLimit kind (cc e)
+  stays_at false None left rest (suc n) None kind fits h e =
       let is : CannotExpand ≡ kind = cc e in
       record {
         much = bursts;
-        notes = note_of bursts None;
-        unlooked = no_lookups bursts None;
-        free = λ l. spends_none l bursts;
-        is = ap (given_by n) fits ∙ ap (λ k. only (followed_by (looks (note_of bursts None)) (bursting bursts (stays_in dialect k around site)))) is;
+        notes = note_of bursts None put;
+        unlooked = no_lookups bursts None put;
+        spent = subst (Spends left rest) (append-nil (note_of bursts None put)) (spends_note left rest bursts None put [] h);
+        is = ap (given_by n) fits ∙ ap (λ k. only (followed_by (looks (note_of bursts None put)) (bursting bursts (stays_in dialect k around site)))) is;
       }
-  stays_at false (Some limits) (suc n) None kind fits e =
+  stays_at false (Some limits) left rest (suc n) None kind fits h e =
       let is : CannotExpand ≡ kind = cc e in
       record {
         much = bursts;
         notes = [];
         unlooked = refl;
-        free = spends_nothing;
+        spent = spends_same left rest h.1;
         is = ap (λ o. as_noted (cut_at (passed_by limits n o) n o).given) fits
-            ∙ ap (λ p. as_noted (cut_at p n None).given) (nothing_passed limits n)
+            ∙ ap (λ p. as_noted (cut_at p n None).given) (nothing_passed limits n h.0)
             ∙ ap (λ k. only (followed_by (looks []) (bursting bursts (stays_in dialect k around site)))) is;
       }
-  stays_at false limits (suc n) (Some g) kind fits e = absurd (cc e)
+  stays_at false limits left rest (suc n) (Some g) kind fits h e = absurd (cc e)
 
-  pub stays_is : (limits : Option Limits) (depth : ℕ) (kind : FaultKind) → answer world d depth site.argument ≡ Err kind → Stays (of_call (world.broken d) limits depth) kind
-  stays_is limits depth kind e = stays_at (world.broken d) limits depth (world.fit d site.argument) kind refl e
+  pub stays_is : (limits left rest : Option Limits) (depth : ℕ) (kind : FaultKind) → Charged limits left rest (trial world d depth site.argument)
+      → answer world d depth site.argument ≡ Err kind → Stays left rest (of_call (world.broken d) limits depth) kind
+  stays_is limits left rest depth kind h e = stays_at (world.broken d) limits left rest depth (world.fit d site.argument) kind refl h e
 
-  unreplaced_at : (limits : Option Limits) (n : ℕ) (broken : Bool) (given : Option Forest) (kind : FaultKind) → world.broken d ≡ broken → world.fit d site.argument ≡ given
+  unreplaced_at : (limits left rest : Option Limits) (n : ℕ) (broken : Bool) (given : Option Forest) (kind : FaultKind) → world.broken d ≡ broken → world.fit d site.argument ≡ given
+      → Charged limits left rest (trial_by broken n given)
       → (if broken then Err BrokenDefinition else answer_at n given) ≡ Err kind → replaced_at limits n ≡ false
-  unreplaced_at limits zero broken given kind b f e = refl
-  unreplaced_at None (suc n) true given kind b f e = ap (λ x. not x && is_some (world.fit d site.argument)) b
-  unreplaced_at (Some limits) (suc n) true given kind b f e = ap (λ x. not x && (cut_at (passed_by limits n (world.fit d site.argument)) n (world.fit d site.argument)).replaces) b
-  unreplaced_at None (suc n) false None kind b f e = ap (λ x. not x && is_some (world.fit d site.argument)) b ∙ ap is_some f
-  unreplaced_at (Some limits) (suc n) false None kind b f e =
+  unreplaced_at limits left rest zero broken given kind b f h e = refl
+  unreplaced_at None left rest (suc n) true given kind b f h e = ap (λ x. not x && is_some (world.fit d site.argument)) b
+  unreplaced_at (Some limits) left rest (suc n) true given kind b f h e = ap (λ x. not x && (cut_at (passed_by limits n (world.fit d site.argument)) n (world.fit d site.argument)).replaces) b
+  unreplaced_at None left rest (suc n) false None kind b f h e = ap (λ x. not x && is_some (world.fit d site.argument)) b ∙ ap is_some f
+  unreplaced_at (Some limits) left rest (suc n) false None kind b f h e =
       ap (λ x. not x && (cut_at (passed_by limits n (world.fit d site.argument)) n (world.fit d site.argument)).replaces) b
       ∙ ap (λ o. (cut_at (passed_by limits n o) n o).replaces) f
-      ∙ ap (λ p. (cut_at p n None).replaces) (nothing_passed limits n)
-  unreplaced_at limits (suc n) false (Some h) kind b f e = absurd (cc e)
+      ∙ ap (λ p. (cut_at p n None).replaces) (nothing_passed limits n h.0)
+  unreplaced_at limits left rest (suc n) false (Some g) kind b f h e = absurd (cc e)
 
-  pub stays_unreplaced : (limits : Option Limits) (depth : ℕ) (kind : FaultKind) → answer world d depth site.argument ≡ Err kind → replaced_at limits depth ≡ false
-  stays_unreplaced limits depth kind e = unreplaced_at limits depth (world.broken d) (world.fit d site.argument) kind refl refl e
+  pub stays_unreplaced : (limits left rest : Option Limits) (depth : ℕ) (kind : FaultKind) → Charged limits left rest (trial world d depth site.argument)
+      → answer world d depth site.argument ≡ Err kind → replaced_at limits depth ≡ false
+  stays_unreplaced limits left rest depth kind h e = unreplaced_at limits left rest depth (world.broken d) (world.fit d site.argument) kind refl refl h e
 
   -- ---- a call whose result comes
 
   -- no limit is passed
   abbrev Fits : Option Limits → ℕ → Forest → Type 0
-  Fits limits depth g = passing limits (notes_with g (deeper depth g).outcome.finds) ≡ None
+  Fits limits depth g = passing limits (notes_with put (deeper depth g).outcome.finds) ≡ None
 
   comes_at : (limits : Option Limits) (depth : ℕ) (g : Forest) → world.broken d ≡ false → world.fit d site.argument ≡ Some g → 0 < depth → Fits limits depth g
       → (of_call false limits depth ≡ made_of limits g (deeper depth g)) × (replaced_at limits depth ≡ true)
   comes_at limits zero g b f less free = absurd (omega (arith, less))
   comes_at None (suc n) g b f less free =
-      (ap (given_by n) f ∙ ap (with_note (note_of bursts (Some g)) bursts) (result_noted n g), ap (λ x. not x && is_some (world.fit d site.argument)) b ∙ ap is_some f)
+      (ap (given_by n) f ∙ ap (with_note (note_of bursts (Some g) put) bursts) (result_noted n g), ap (λ x. not x && is_some (world.fit d site.argument)) b ∙ ap is_some f)
   comes_at (Some limits) (suc n) g b f less free =
-      let none : passed_by limits n (Some g) ≡ None = passed_is limits n g ∙ none_passed_note (Some limits) bursts g (deeper (suc n) g).outcome.finds free in (
+      let none : passed_by limits n (Some g) ≡ None = passed_is limits n (Some g) ∙ none_passed_note (Some limits) bursts (Some g) put (deeper (suc n) g).outcome.finds free in (
         ap (λ o. as_noted (cut_at (passed_by limits n o) n o).given) f ∙ ap (λ p. as_noted (cut_at p n (Some g)).given) none ∙ ap (with_looks bursts) (result_plain n g),
         ap (λ x. not x && (cut_at (passed_by limits n (world.fit d site.argument)) n (world.fit d site.argument)).replaces) b
             ∙ ap (λ o. (cut_at (passed_by limits n o) n o).replaces) f ∙ ap (λ p. (cut_at p n (Some g)).replaces) none,
@@ -323,27 +370,27 @@ module _ (dialect : Dialect) (world : World Numbered) (scope : List ℕ → Opti
   abbrev pub too_large_with : Bool → List (List ℕ × Option Numbered) → Scoped (Noted Numbered)
   too_large_with b xs = only (followed_by (looks (among_notes xs)) (bursting b (stays TooLarge around.outer site)))
 
-  pub record StaysLarge (limits : Option Limits) (depth : ℕ) (g : Forest) (xs : List (List ℕ × Option Numbered)) : Type 0 where
+  pub record StaysLarge (limits : Option Limits) (depth : ℕ) (o : Option Forest) (xs : List (List ℕ × Option Numbered)) : Type 0 where
     pub much : Bool
     pub is : of_call (world.broken d) limits depth ≡ too_large_with much xs
     pub unreplaced : replaced_at limits depth ≡ false
-    pub too : BurstsFirst limits (notes_with g (deeper depth g).outcome.finds) → much ≡ true
+    pub too : BurstsFirst limits (sized (calls_of o) put ++ behind_of depth o) → much ≡ true
 
-  large_at : (limits : Option Limits) (depth : ℕ) (g : Forest) → world.broken d ≡ false → world.fit d site.argument ≡ Some g → 0 < depth
-      → (p : Passed Numbered) → passing limits (notes_with g (deeper depth g).outcome.finds) ≡ Some p → StaysLarge limits depth g p.finds
-  large_at None depth g b f less p over = absurd (cc over)
-  large_at limits zero g b f less p over = absurd (omega (arith, less))
-  large_at (Some limits) (suc n) g b f less p over =
-      let q = passing_note (Some limits) bursts g (deeper (suc n) g).outcome.finds p over in
-      let so : passed_by limits n (Some g) ≡ Some q.0 = passed_is limits n g ∙ q.1.0 in
+  large_at : (limits : Option Limits) (depth : ℕ) (o : Option Forest) → world.broken d ≡ false → world.fit d site.argument ≡ o → 0 < depth
+      → (p : Passed Numbered) → passing limits (sized (calls_of o) put ++ behind_of depth o) ≡ Some p → StaysLarge limits depth o p.finds
+  large_at None depth o b f less p over = absurd (cc over)
+  large_at limits zero o b f less p over = absurd (omega (arith, less))
+  large_at (Some limits) (suc n) o b f less p over =
+      let q = passing_note (Some limits) bursts o put (behind_of (suc n) o) p over in
+      let so : passed_by limits n o ≡ Some q.0 = passed_is limits n o ∙ q.1.0 in
       record {
         much = q.0.bursts;
         is = ap (λ x. of_call x (Some limits) (suc n)) b
-            ∙ ap (λ o. as_noted (cut_at (passed_by limits n o) n o).given) f ∙ ap (λ x. as_noted (cut_at x n (Some g)).given) so
+            ∙ ap (λ o'. as_noted (cut_at (passed_by limits n o') n o').given) f ∙ ap (λ x. as_noted (cut_at x n o).given) so
             ∙ large_is q.0.bursts q.0.finds ∙ ap (too_large_with q.0.bursts) q.1.1;
         unreplaced = ap (λ x. not x && (cut_at (passed_by limits n (world.fit d site.argument)) n (world.fit d site.argument)).replaces) b
-            ∙ ap (λ o. (cut_at (passed_by limits n o) n o).replaces) f ∙ ap (λ x. (cut_at x n (Some g)).replaces) so;
-        too = λ first. bursts_note (Some limits) bursts g (deeper (suc n) g).outcome.finds first [] q.0 (ap (passing (Some limits)) (append-nil (note_of bursts (Some g) ++ (deeper (suc n) g).outcome.finds)) ∙ q.1.0);
+            ∙ ap (λ o'. (cut_at (passed_by limits n o') n o').replaces) f ∙ ap (λ x. (cut_at x n o).replaces) so;
+        too = λ first. bursts_note (Some limits) bursts o put (behind_of (suc n) o) first [] q.0 (ap (passing (Some limits)) (append-nil (note_of bursts o put ++ behind_of (suc n) o)) ∙ q.1.0);
       }
     where
       large_is : (t : Bool) (xs : List (List ℕ × Option Numbered)) → as_noted (let kept : Outcome Numbered = stays TooLarge around.outer site in only (record kept { finds = xs; bursts = t })) ≡ too_large_with t xs
@@ -354,11 +401,23 @@ module _ (dialect : Dialect) (world : World Numbered) (scope : List ℕ → Opti
         bursts = sym (or_false t) i;
       })
 
-  pub large_comes : (limits : Option Limits) (depth : ℕ) (g : Forest) → answer world d depth site.argument ≡ Ok g
-      → (p : Passed Numbered) → passing limits (notes_with g (deeper depth g).outcome.finds) ≡ Some p → StaysLarge limits depth g p.finds
-  large_comes limits depth g e p over =
-      let (b, f) = fits d world depth site.argument g e in
-      large_at limits depth g b f (deep d world depth site.argument g e) p over
+  pub large_comes : (limits : Option Limits) (depth : ℕ) (o : Option Forest) → IsTried world d depth site.argument o
+      → (p : Passed Numbered) → passing limits (sized (calls_of o) put ++ behind_of depth o) ≡ Some p → StaysLarge limits depth o p.finds
+  large_comes limits depth o is p over = large_at limits depth o is.0 is.1.0 is.1.1 p over
+
+  -- without limits all it gives is behind its notes
+  tried_at : (depth : ℕ) (o : Option Forest) → world.broken d ≡ false → world.fit d site.argument ≡ o → 0 < depth
+      → (of_call (world.broken d) None depth).outcome.finds ≡ note_of bursts o put ++ behind_of depth o
+  tried_at zero o b f less = absurd (omega (arith, less))
+  tried_at (suc n) o b f less = ap (λ x. (of_call x None (suc n)).outcome.finds) b ∙ ap (λ q. (given_by n q).outcome.finds) f ∙ go o
+    where
+      go : (q : Option Forest) → (given_by n q).outcome.finds ≡ note_of bursts q put ++ behind_of (suc n) q
+      go None = refl
+      go (Some g) = ap (λ (a : Scoped (Noted Numbered)). note_of bursts (Some g) put ++ a.outcome.finds) (result_noted n g)
+
+  pub tried_is : (depth : ℕ) (o : Option Forest) → IsTried world d depth site.argument o
+      → (of_call (world.broken d) None depth).outcome.finds ≡ note_of bursts o put ++ behind_of depth o
+  tried_is depth o is = tried_at depth o is.0 is.1.0 is.1.1
 
   -- ---- too many tokens
 
@@ -370,8 +429,8 @@ module _ (dialect : Dialect) (world : World Numbered) (scope : List ℕ → Opti
   -- where the call makes too many at once, its notes begin with that
   first_here : (l : Option Limits) (n : ℕ) (o : Option Forest) → bursts ≡ true → BurstsFirst l (notes_by n o)
   first_here l n o e =
-      subst (λ b. BurstsFirst l (note_of b o ++ (fitted dialect (noted_world world) noted_local (noted_scope scope) (noted dialect world unnumbered scope n) around site o).outcome.finds)) (sym e)
-      (bursts_here l o (fitted dialect (noted_world world) noted_local (noted_scope scope) (noted dialect world unnumbered scope n) around site o).outcome.finds)
+      subst (λ b. BurstsFirst l (note_of b o put ++ (fitted dialect (noted_world world) noted_local (noted_scope scope) (noted dialect world unnumbered scope n) around site o).outcome.finds)) (sym e)
+      (bursts_here l o put (fitted dialect (noted_world world) noted_local (noted_scope scope) (noted dialect world unnumbered scope n) around site o).outcome.finds)
 
   limited_bursts : (limits : Limits) (n : ℕ) (o : Option Forest) → bursts ≡ true → (cut_at (passed_by limits n o) n o).given.outcome.bursts ≡ true
   limited_bursts limits n o e =
@@ -399,17 +458,17 @@ module _ (dialect : Dialect) (world : World Numbered) (scope : List ℕ → Opti
 
   -- where its result does before a limit is passed, so does the call
   pub result_too : (limits : Option Limits) (depth : ℕ) (g : Forest) → answer world d depth site.argument ≡ Ok g → (deeper depth g).outcome.bursts ≡ true
-      → BurstsFirst limits (notes_with g (deeper depth g).outcome.finds) → (of_call (world.broken d) limits depth).outcome.bursts ≡ true
-  result_too limits depth g e much first = go (passing limits (notes_with g (deeper depth g).outcome.finds)) refl
+      → BurstsFirst limits (notes_with put (deeper depth g).outcome.finds) → (of_call (world.broken d) limits depth).outcome.bursts ≡ true
+  result_too limits depth g e much first = go (passing limits (notes_with put (deeper depth g).outcome.finds)) refl
     where
       made_too : (l : Option Limits) → (made_of l g (deeper depth g)).outcome.bursts ≡ true
       made_too None = or_later bursts _ much
       made_too (Some l) = or_later bursts _ much
 
-      go : (o : Option (Passed Numbered)) → passing limits (notes_with g (deeper depth g).outcome.finds) ≡ o → (of_call (world.broken d) limits depth).outcome.bursts ≡ true
+      go : (o : Option (Passed Numbered)) → passing limits (notes_with put (deeper depth g).outcome.finds) ≡ o → (of_call (world.broken d) limits depth).outcome.bursts ≡ true
       go None is = ap (λ (a : Scoped (Noted Numbered)). a.outcome.bursts) (comes_is limits depth g e is).0 ∙ made_too limits
       go (Some p) is =
-          let l : StaysLarge limits depth g p.finds = large_comes limits depth g e p is in
+          let l : StaysLarge limits depth (Some g) p.finds = large_comes limits depth (Some g) (tried_ok d world depth site.argument g e) p is in
           ap (λ (a : Scoped (Noted Numbered)). a.outcome.bursts) l.is ∙ or_first l.much false (l.too first)
 
 -- what a list around it answers is no look-up
@@ -615,23 +674,25 @@ module _ (dialect : Dialect) (world : World Numbered) (scope : List ℕ → Opti
     made_here c k d g = made_of dialect world scope d around (at_site c k) levels.limits g (given_of c k d g)
 
     -- and stays for a fault
-    pub stays_here : (c : Call) (k : IsCall p.here c true) (d : Numbered) (kind : FaultKind) → answer world d levels.depth c.argument ≡ Err kind → Stays dialect world scope d around (at_site c k)
+    pub stays_here : (c : Call) (k : IsCall p.here c true) (d : Numbered) (kind : FaultKind) (left rest : Option Limits) → Charged levels.limits left rest (trial world d levels.depth c.argument)
+        → answer world d levels.depth c.argument ≡ Err kind → Stays dialect world scope d around (at_site c k) left rest
         (unbroken dialect (noted_world world) noted_local (noted_scope scope) (definition d) (world.broken d) (deeper_at dialect world scope levels) around (at_site c k)) kind
-    stays_here c k d kind says = stays_is dialect world scope d around (at_site c k) levels.limits levels.depth kind says
+    stays_here c k d kind left rest h says = stays_is dialect world scope d around (at_site c k) levels.limits left rest levels.depth kind h says
 
-    pub stays_left : (c : Call) (k : IsCall p.here c true) (d : Numbered) → resolved scope p.locals p.here c ≡ Some d → (kind : FaultKind) → (says : answer world d levels.depth c.argument ≡ Err kind)
-        → (let is = stays_here c k d kind says in all_left dialect world scope levels outer p
+    pub stays_left : (c : Call) (k : IsCall p.here c true) (d : Numbered) → resolved scope p.locals p.here c ≡ Some d → (kind : FaultKind) (left rest : Option Limits) (h : Charged levels.limits left rest (trial world d levels.depth c.argument))
+        → (says : answer world d levels.depth c.argument ≡ Err kind)
+        → (let is = stays_here c k d kind left rest h says in all_left dialect world scope levels outer p
         ≡ then_left (followed_by (looks (xs_of c)) (followed_by (looks is.notes) (bursting is.much (stays_in dialect kind around (at_site c k)))))
         (all_left dialect world scope levels outer (behind_call false c [])))
-    stays_left c k d finds kind says =
-        let is = stays_here c k d kind says in
+    stays_left c k d finds kind left rest h says =
+        let is = stays_here c k d kind left rest h says in
         known_left c k d finds false
-        (takes_none c true k (Some (definition d)) (found_is c k ∙ ap (option_map definition) finds) (stays_unreplaced dialect world scope d around (at_site c k) levels.limits levels.depth kind says))
+        (takes_none c true k (Some (definition d)) (found_is c k ∙ ap (option_map definition) finds) (stays_unreplaced dialect world scope d around (at_site c k) levels.limits left rest levels.depth kind h says))
         (only (followed_by (looks is.notes) (bursting is.much (stays_in dialect kind around (at_site c k))))) is.is
 
     -- or its result comes in its place, if no limit is passed
     pub comes_left : (c : Call) (k : IsCall p.here c true) (d : Numbered) → resolved scope p.locals p.here c ≡ Some d → (g : Forest) → answer world d levels.depth c.argument ≡ Ok g
-        → passing levels.limits (notes_with g (given_of c k d g).outcome.finds) ≡ None
+        → passing levels.limits (notes_with (world.put_out d c.argument) (given_of c k d g).outcome.finds) ≡ None
         → all_left dialect world scope levels outer p
         ≡ then_left (followed_by (looks (xs_of c)) (made_here c k d g).outcome) (all_left dialect world scope levels outer (behind_call (stands_alone c true k) c (made_here c k d g).defines))
     comes_left c k d finds g says free =
@@ -639,18 +700,21 @@ module _ (dialect : Dialect) (world : World Numbered) (scope : List ℕ → Opti
         known_left c k d finds (stands_alone c true k) (takes_some c k d finds is.1) (made_here c k d g) is.0
 
     -- or it stays, since one is passed
-    pub large_here : (c : Call) (k : IsCall p.here c true) (d : Numbered) (g : Forest) → answer world d levels.depth c.argument ≡ Ok g
-        → (q : Passed Numbered) → passing levels.limits (notes_with g (given_of c k d g).outcome.finds) ≡ Some q
-        → StaysLarge dialect world scope d around (at_site c k) levels.limits levels.depth g q.finds
-    large_here c k d g says q over = large_comes dialect world scope d around (at_site c k) levels.limits levels.depth g says q over
+    abbrev pub behind_here : (c : Call) → IsCall p.here c true → Numbered → Option Forest → Notes Numbered
+    behind_here c k d o = behind_of dialect world scope d around (at_site c k) levels.depth o
 
-    pub large_left : (c : Call) (k : IsCall p.here c true) (d : Numbered) → resolved scope p.locals p.here c ≡ Some d → (g : Forest) → (says : answer world d levels.depth c.argument ≡ Ok g)
-        → (q : Passed Numbered) → (over : passing levels.limits (notes_with g (given_of c k d g).outcome.finds) ≡ Some q)
+    pub large_here : (c : Call) (k : IsCall p.here c true) (d : Numbered) (o : Option Forest) → IsTried world d levels.depth c.argument o
+        → (q : Passed Numbered) → passing levels.limits (sized (calls_of o) (world.put_out d c.argument) ++ behind_here c k d o) ≡ Some q
+        → StaysLarge dialect world scope d around (at_site c k) levels.limits levels.depth o q.finds
+    large_here c k d o says q over = large_comes dialect world scope d around (at_site c k) levels.limits levels.depth o says q over
+
+    pub large_left : (c : Call) (k : IsCall p.here c true) (d : Numbered) → resolved scope p.locals p.here c ≡ Some d → (o : Option Forest) → (says : IsTried world d levels.depth c.argument o)
+        → (q : Passed Numbered) → (over : passing levels.limits (sized (calls_of o) (world.put_out d c.argument) ++ behind_here c k d o) ≡ Some q)
         → all_left dialect world scope levels outer p
-        ≡ then_left (followed_by (looks (xs_of c)) (too_large_with dialect world scope d around (at_site c k) (large_here c k d g says q over).much q.finds).outcome)
+        ≡ then_left (followed_by (looks (xs_of c)) (too_large_with dialect world scope d around (at_site c k) (large_here c k d o says q over).much q.finds).outcome)
         (all_left dialect world scope levels outer (behind_call false c []))
-    large_left c k d finds g says q over =
-        let is = large_here c k d g says q over in
+    large_left c k d finds o says q over =
+        let is = large_here c k d o says q over in
         known_left c k d finds false (takes_none c true k (Some (definition d)) (found_is c k ∙ ap (option_map definition) finds) is.unreplaced)
         (too_large_with dialect world scope d around (at_site c k) is.much q.finds) is.is
 
@@ -671,7 +735,7 @@ module _ (dialect : Dialect) (world : World Numbered) (scope : List ℕ → Opti
     answer_bursts c k d finds much = call_bursts c k d finds (bursts_is dialect world scope d around (at_site c k) levels.limits levels.depth much)
 
     pub result_bursts : (c : Call) (k : IsCall p.here c true) (d : Numbered) → resolved scope p.locals p.here c ≡ Some d → (g : Forest) → answer world d levels.depth c.argument ≡ Ok g
-        → (given_of c k d g).outcome.bursts ≡ true → BurstsFirst levels.limits (notes_with g (given_of c k d g).outcome.finds)
+        → (given_of c k d g).outcome.bursts ≡ true → BurstsFirst levels.limits (notes_with (world.put_out d c.argument) (given_of c k d g).outcome.finds)
         → (all_left dialect world scope levels outer p).0.bursts ≡ true
     result_bursts c k d finds g says much first = call_bursts c k d finds (result_too dialect world scope d around (at_site c k) levels.limits levels.depth g says much first)
 
@@ -687,13 +751,12 @@ module _ (dialect : Dialect) (world : World Numbered) (scope : List ℕ → Opti
         subst (λ o. BurstsFirst l (unbroken dialect (noted_world world) noted_local (noted_scope scope) (definition d) (world.broken d) (expander_by dialect world scope o levels.depth) around (at_site c k)).outcome.finds)
         (sym inside) (notes_burst dialect world scope d around (at_site c k) levels.depth much l)
 
-    -- the notes of a result in a result
-    pub result_finds : (c : Call) (k : IsCall p.here c true) (d : Numbered) (g : Forest) → answer world d levels.depth c.argument ≡ Ok g → levels.limits ≡ None
-        → (outcome_here c k d).outcome.finds ≡ note_of (world.bursts d c.argument) (Some g) ++ (given_of c k d g).outcome.finds
-    result_finds c k d g says inside =
-        ap (λ (a : Scoped (Noted Numbered)). a.outcome.finds)
-        (comes_is dialect world scope d around (at_site c k) levels.limits levels.depth g says (ap (λ l. passing l (notes_with g (given_of c k d g).outcome.finds)) inside)).0
-        ∙ ap (λ l. (made_of dialect world scope d around (at_site c k) l g (given_of c k d g)).outcome.finds) inside
+    -- the notes of a call in a result
+    pub result_finds : (c : Call) (k : IsCall p.here c true) (d : Numbered) (o : Option Forest) → IsTried world d levels.depth c.argument o → levels.limits ≡ None
+        → (outcome_here c k d).outcome.finds ≡ note_of (world.bursts d c.argument) o (world.put_out d c.argument) ++ behind_here c k d o
+    result_finds c k d o says inside =
+        ap (λ l. (unbroken dialect (noted_world world) noted_local (noted_scope scope) (definition d) (world.broken d) (expander_by dialect world scope l levels.depth) around (at_site c k)).outcome.finds) inside
+        ∙ tried_is dialect world scope d around (at_site c k) levels.depth o says
 
 -- ---- a whole tree
 

@@ -38,10 +38,10 @@ use Rattle.expander_model.specs.declared.scope_rules.ScopeRules.TheVariants.{Top
 use Rattle.expander_model.specs.declared.scope_rules.Standing.{Standing}
 use Rattle.expander_model.specs.declared.scope_rules.Standing.TheVariants.{Argument}
 use Rattle.expander_model.specs.declared.tree_walk.Around.{Around}
-use Rattle.expander_model.specs.Limits.{Noted, Notes, looked_in, note_of, noted_world}
+use Rattle.expander_model.specs.Limits.{Noted, Notes, calls_of, looked_in, note_of, noted_world, passed_at_once, sized}
 use Rattle.expander_model.specs.declared.limits.Limits.{Limits}
-use Rattle.expander_scope.specs.Expanding.{Adds, Levels, among_notes, answer, deeper_at, levels_in, makes_too_many, noted_local, noted_scope, searched, stays_for, told_once}
-use Rattle.expander_scope.specs.Spending.{BurstsFirst, BurstsIn, Searched, Spends, Stops, TakesBack, notes_with, passing}
+use Rattle.expander_scope.specs.Expanding.{Adds, Levels, among_notes, answer, deeper_at, levels_in, makes_too_many, noted_local, noted_scope, searched, stays_for, told_once, trial}
+use Rattle.expander_scope.specs.Spending.{BurstsFirst, BurstsIn, Searched, Spends, Stops, TakesBack, left_behind, notes_with, passing}
 use Rattle.expander_scope.specs.ListsLeft.{IsAhead, IsOutAhead, Left, Open, Place, all_left, groups_left, in_list, let_out, list_left, then_left}
 use Rattle.expander_scope.specs.Leaving.{Leaves}
 use Rattle.expander_scope.specs.LocalTables.{AreReadIn, locals_of}
@@ -51,11 +51,12 @@ use Rattle.expander_scope.specs.declared.list_walk.Level.{Level}
 use Rattle.expander_scope.specs.declared.list_walk.ListWalk.{ListWalk}
 use Rattle.expander_scope.specs.declared.locals.Locals.{Locals}
 use Rattle.expander_scope.proofs.CallLemmas.{no_call}
-use Rattle.expander_scope.proofs.CallResultLemmas.{lookups_among, no_lookups, takes, colons_left, adds_just, adds_looks, adds_more, adds_notes, answer_bursts, answer_first, behind_call, comes_left, finds_left, given_of, large_here, large_left, looked_among, looks, made_of, outcome_here, result_bursts, result_finds, site_of, stands_alone, stays_here, stays_left, unknown_left}
+use Rattle.expander_scope.proofs.CallResultLemmas.{IsTried, behind_here, tried_note, tried_ok, tried_over, lookups_among, no_lookups, takes, colons_left, adds_just, adds_looks, adds_more, adds_notes, answer_bursts, answer_first, behind_call, comes_left, finds_left, given_of, large_here, large_left, looked_among, looks, made_of, outcome_here, result_bursts, result_finds, site_of, stands_alone, stays_here, stays_left, unknown_left}
 use Rattle.expander_scope.proofs.ListLemmas.{entered_in, here_in, left_at_beginning, left_at_end, left_group, left_leaf, opened, passed_in, then_assoc}
 use Rattle.expander_scope.proofs.OutcomeLemmas.{or_later}
+use Rattle.expander_scope.proofs.ReplaceLemmas.{stops_at_once}
 use Rattle.expander_scope.proofs.SinkLemmas.{takes_none, takes_both}
-use Rattle.expander_scope.proofs.SpendingLemmas.{IsApart, behind_notes, bursts_before, bursts_more, bursts_none, bursts_note, passing_before, passing_more, passing_note, spends_looks, spends_more, spends_note, spends_nothing, spends_same}
+use Rattle.expander_scope.proofs.SpendingLemmas.{Charged, IsApart, behind_notes, bursts_before, bursts_more, bursts_none, bursts_note, limited_by, passed_here, passing_before, passing_more, passing_note, spends_looks, spends_more, spends_note, spends_nothing, spends_same}
 use Rattle.expander_scope.proofs.TurnLemmas.{IsCall, call_is_call, colons_is_call, neither, rest_smaller}
 use Rattle.textual_scope.proofs.LeftLemmas.{at_definition, at_out}
 use Rattle.textual_scope.proofs.ResultLemmas.{followed_by_nothing, nothing_and}
@@ -547,20 +548,21 @@ module _ (dialect : Dialect) (world : World Numbered) (scope : List ℕ → Opti
       -- it stays for a fault
       pub goes_stays : (new : Search S) (after : ListWalk) (d : Numbered) → Some d ≡ resolved scope (locals_of old.locals) w.trees.here c
           → (kind : FaultKind) → answer world d levels.depth c.argument ≡ Err kind
+          → Charged levels.limits mid.left new.left (trial world d levels.depth c.argument)
           → (t : Option (FaultKind × Span)) → told_once t ≡ unless_excused (is_excused dialect kind w.standing) kind (unwrap_or outer c.name.span)
           → ((passed : Forest) → w.trees.here ≡ joined passed c.rest → Adds Has mid.out new.out (stays_for t outer passed))
-          → new.locals ≡ mid.locals → new.left ≡ mid.left → GoesBehind false c w after → Goes dialect world scope levels outer p.outside edition Has (whole_left p) old new w after
-      goes_stays new after d found kind says t told adds locals left b =
-          let is = stays_here dialect world scope levels outer p plain c call_is d kind says in
+          → new.locals ≡ mid.locals → GoesBehind false c w after → Goes dialect world scope levels outer p.outside edition Has (whole_left p) old new w after
+      goes_stays new after d found kind says counted t told adds locals b =
+          let is = stays_here dialect world scope levels outer p plain c call_is d kind mid.left new.left counted says in
           let o : Outcome (Noted Numbered) = bursting is.much (stays_in dialect kind here site) in record {
             next = behind_it false [];
             at = stands_behind false new after [] b (ap locals_of locals);
             outcome = followed_by (looks xs) (followed_by (looks is.notes) o);
-            is = stays_left dialect world scope levels outer p plain c call_is d (resolved_is (Some d) found) kind says;
+            is = stays_left dialect world scope levels outer p plain c call_is d (resolved_is (Some d) found) kind mid.left new.left counted says;
             adds = looked_first new (followed_by (looks is.notes) o)
                 (adds_notes Has mid.out new.out is.notes o is.unlooked (bursts_too (stays_in dialect kind here site) is.much mid new (kept_in mid new kind t told adds)));
             spends = spends_more old.left mid.left new.left xs (is.notes ++ []) looked_spends
-                (spends_more mid.left mid.left new.left is.notes [] (is.free mid.left) (spends_same mid.left new.left left));
+                (spends_more mid.left new.left new.left is.notes [] is.spent (spends_nothing new.left));
             read = subst (AreReadIn edition) (sym (locals ∙ same_locals));
             outside_is = refl;
             less = behind_less false after b;
@@ -577,8 +579,21 @@ module _ (dialect : Dialect) (world : World Numbered) (scope : List ℕ → Opti
       result_is d g = λ i. searched dialect world scope (levels_in levels)
           (record { standing = at.standing i; outer = Some (unwrap_or outer c.name.span); locals = (ap locals_of same_locals ∙ at.locals) i }) g
 
-      notes_is : (d : Numbered) (g : Forest) → notes_with g (result_of g).outcome.finds ≡ notes_with g (result_here d g).outcome.finds
-      notes_is d g = ap (λ (a : Scoped (Noted Numbered)). notes_with g a.outcome.finds) (result_is d g)
+      -- what its rules put out
+      abbrev pub put_for : Numbered → ℕ
+      put_for d = world.put_out d c.argument
+
+      -- the notes of what it gives, behind its own
+      abbrev pub behind_call_of : Option Forest → Notes Numbered
+      behind_call_of None = []
+      behind_call_of (Some g) = (result_of g).outcome.finds
+
+      behind_is : (d : Numbered) (o : Option Forest) → behind_call_of o ≡ behind_here dialect world scope levels outer p plain c call_is d o
+      behind_is d None = refl
+      behind_is d (Some g) = ap (λ (a : Scoped (Noted Numbered)). a.outcome.finds) (result_is d g)
+
+      notes_is : (d : Numbered) (g : Forest) → notes_with (put_for d) (result_of g).outcome.finds ≡ notes_with (put_for d) (result_here d g).outcome.finds
+      notes_is d g = ap (λ (a : Scoped (Noted Numbered)). notes_with (put_for d) a.outcome.finds) (result_is d g)
 
       abbrev made_with : Option Limits → Numbered → Forest → Scoped (Noted Numbered) → Scoped (Noted Numbered)
       made_with l d g a = made_of dialect world scope d (here_in dialect world scope levels outer p.standing p.locals) site l g a
@@ -586,7 +601,7 @@ module _ (dialect : Dialect) (world : World Numbered) (scope : List ℕ → Opti
       adds_made : (l : Option Limits) (d : Numbered) (g : Forest) (new : Search S) (a : Scoped (Noted Numbered)) → Adds Has mid.out new.out a.outcome → Adds Has mid.out new.out (made_with l d g a).outcome
       adds_made None d g new a adds =
           let t : Bool = world.bursts d c.argument in
-          adds_notes Has mid.out new.out (note_of t (Some g)) (bursting t a.outcome) (no_lookups t (Some g)) (record { steps = adds.steps; faults = adds.faults; finds = adds.finds })
+          adds_notes Has mid.out new.out (note_of t (Some g) (put_for d)) (bursting t a.outcome) (no_lookups t (Some g) (put_for d)) (record { steps = adds.steps; faults = adds.faults; finds = adds.finds })
       adds_made (Some l) d g new a adds =
           record { steps = adds.steps; faults = adds.faults; finds = adds.finds ∙ ap (λ fs. map find_of mid.out.finds.items ++ fs) (sym (looked_among (looked_in a.outcome.finds))) }
 
@@ -595,10 +610,10 @@ module _ (dialect : Dialect) (world : World Numbered) (scope : List ℕ → Opti
       made_defines (Some l) d g a = refl
 
       spends_made : (l : Option Limits) (d : Numbered) (g : Forest) (new : Search S) (a : Scoped (Noted Numbered)) → IsApart l mid.left
-          → Spends mid.left new.left (notes_with g a.outcome.finds) → Spends mid.left new.left (made_with l d g a).outcome.finds
-      spends_made None d g new a apart h = spends_note mid.left new.left (world.bursts d c.argument) g a.outcome.finds h
+          → Spends mid.left new.left (notes_with (put_for d) a.outcome.finds) → Spends mid.left new.left (made_with l d g a).outcome.finds
+      spends_made None d g new a apart h = spends_note mid.left new.left (world.bursts d c.argument) (Some g) (put_for d) a.outcome.finds h
       spends_made (Some l) d g new a apart h =
-          subst (λ x. Spends x new.left (made_with (Some l) d g a).outcome.finds) (sym apart) (subst (λ x. Spends x new.left (notes_with g a.outcome.finds)) apart h)
+          subst (λ x. Spends x new.left (made_with (Some l) d g a).outcome.finds) (sym apart) (subst (λ x. Spends x new.left (notes_with (put_for d) a.outcome.finds)) apart h)
 
       apart_mid : (l : Option Limits) → IsApart l old.left → IsApart l mid.left
       apart_mid None h = tt
@@ -606,8 +621,8 @@ module _ (dialect : Dialect) (world : World Numbered) (scope : List ℕ → Opti
 
       pub goes_comes : (new : Search S) (after : ListWalk) (d : Numbered) → Some d ≡ resolved scope (locals_of old.locals) w.trees.here c
           → (g : Forest) → answer world d levels.depth c.argument ≡ Ok g → IsApart levels.limits old.left
-          → Searched Has mid new (result_of g) (notes_with g (result_of g).outcome.finds)
-          → passing levels.limits (notes_with g (result_of g).outcome.finds) ≡ None
+          → Searched Has mid new (result_of g) (notes_with (put_for d) (result_of g).outcome.finds)
+          → passing levels.limits (notes_with (put_for d) (result_of g).outcome.finds) ≡ None
           → AreReadIn edition new.locals → GoesBehind alone c w after
           → Goes dialect world scope levels outer p.outside edition Has (whole_left p) old new w after
       goes_comes new after d found g says apart all free read b =
@@ -629,21 +644,21 @@ module _ (dialect : Dialect) (world : World Numbered) (scope : List ℕ → Opti
 
       -- it makes too much, what was added is taken back, and it stays
       pub goes_large : (back new : Search S) (after : ListWalk) (d : Numbered) → Some d ≡ resolved scope (locals_of old.locals) w.trees.here c
-          → (g : Forest) → answer world d levels.depth c.argument ≡ Ok g
-          → TakesBack Has levels.limits mid back (notes_with g (result_of g).outcome.finds)
+          → (o : Option Forest) → IsTried world d levels.depth c.argument o
+          → TakesBack Has levels.limits mid back (sized (calls_of o) (put_for d) ++ behind_call_of o)
           → ((passed : Forest) → w.trees.here ≡ joined passed c.rest → Adds Has back.out new.out (faulted TooLarge (unwrap_or outer c.name.span) (just outer (walk passed))))
           → new.locals ≡ back.locals → new.left ≡ back.left → AreReadIn edition back.locals → GoesBehind false c w after
           → IsApart levels.limits old.left → is_some levels.limits ≡ true
           → Goes dialect world scope levels outer p.outside edition Has (whole_left p) old new w after
-      goes_large back new after d found g says taken adds locals left read b apart by_limits =
-          let over = ap (passing levels.limits) (sym (notes_is d g)) ∙ taken.is in
-          let is = large_here dialect world scope levels outer p plain c call_is d g says taken.passed over in
+      goes_large back new after d found q says taken adds locals left read b apart by_limits =
+          let over = ap (λ ys. passing levels.limits (sized (calls_of q) (put_for d) ++ ys)) (sym (behind_is d q)) ∙ taken.is in
+          let is = large_here dialect world scope levels outer p plain c call_is d q says taken.passed over in
           let o : Outcome (Noted Numbered) = bursting is.much (stays TooLarge outer site) in
           let more : Notes Numbered = among_notes taken.passed.finds in record {
             next = behind_it false [];
             at = stands_behind false new after [] b (ap locals_of locals ∙ taken.locals);
             outcome = followed_by (looks xs) (followed_by (looks more) o);
-            is = large_left dialect world scope levels outer p plain c call_is d (resolved_is (Some d) found) g says taken.passed over;
+            is = large_left dialect world scope levels outer p plain c call_is d (resolved_is (Some d) found) q says taken.passed over;
             adds = looked_first new (followed_by (looks more) o) (kept_large is.much);
             spends = spends_large levels.limits (xs ++ (more ++ [])) apart by_limits;
             read = λ old_read. subst (AreReadIn edition) (sym locals) read;
@@ -671,6 +686,29 @@ module _ (dialect : Dialect) (world : World Numbered) (scope : List ℕ → Opti
               let same : new.left ≡ None = left ∙ taken.left ∙ same_left ∙ apart in
               subst (λ x. Spends x new.left ys) (sym apart) (subst (λ x. Spends None x ys) (sym same) refl)
 
+      -- it passes a limit at once, and stays
+      pub goes_over : (new : Search S) (after : ListWalk) (d : Numbered) → Some d ≡ resolved scope (locals_of old.locals) w.trees.here c
+          → left_behind levels.limits (trial world d levels.depth c.argument) ≡ None
+          → ((passed : Forest) → w.trees.here ≡ joined passed c.rest → Adds Has mid.out new.out (faulted TooLarge (unwrap_or outer c.name.span) (just outer (walk passed))))
+          → new.locals ≡ mid.locals → new.left ≡ mid.left → AreReadIn edition mid.locals → GoesBehind false c w after
+          → IsApart levels.limits old.left
+          → Goes dialect world scope levels outer p.outside edition Has (whole_left p) old new w after
+      goes_over new after d found over adds locals left read b apart =
+          let q : Option Forest = world.fit d c.argument in
+          let says : IsTried world d levels.depth c.argument q = tried_over d world levels.depth c.argument levels.limits over in
+          let here_is = passed_here levels.limits (calls_of q) (put_for d) (behind_call_of q) (ap (left_behind levels.limits) (sym (tried_note d world levels.depth c.argument q says)) ∙ over) in
+          goes_large mid new after d found q says
+          (record {
+            passed = passed_at_once;
+            is = here_is;
+            finds = sym (append-nil (map find_of mid.out.finds.items));
+            takes = takes_none Has mid.out.output;
+            faults = refl;
+            locals = refl;
+            left = refl;
+          })
+          adds locals left read b apart (limited_by levels.limits _ passed_at_once here_is)
+
       -- ---- where the search stops
 
       -- all that is left but what comes of the call
@@ -684,26 +722,26 @@ module _ (dialect : Dialect) (world : World Numbered) (scope : List ℕ → Opti
       all_finds d found = finds_left dialect world scope levels outer p plain c call_is d (resolved_is (Some d) found)
 
       -- in a result: the notes of the call
-      result_notes : (d : Numbered) (g : Forest) → answer world d levels.depth c.argument ≡ Ok g → levels.limits ≡ None
-          → finds_here d ≡ note_of (world.bursts d c.argument) (Some g) ++ (result_of g).outcome.finds
-      result_notes d g says inside =
-          result_finds dialect world scope levels outer p plain c call_is d g says inside
-          ∙ ap (λ (a : Scoped (Noted Numbered)). note_of (world.bursts d c.argument) (Some g) ++ a.outcome.finds) (sym (result_is d g))
+      result_notes : (d : Numbered) (o : Option Forest) → IsTried world d levels.depth c.argument o → levels.limits ≡ None
+          → finds_here d ≡ note_of (world.bursts d c.argument) o (put_for d) ++ behind_call_of o
+      result_notes d o says inside =
+          result_finds dialect world scope levels outer p plain c call_is d o says inside
+          ∙ ap (λ ys. note_of (world.bursts d c.argument) o (put_for d) ++ ys) (sym (behind_is d o))
 
       mid_finds : map find_of mid.out.finds.items ≡ map find_of old.out.finds.items ++ looked_in xs
       mid_finds =
           finds ∙ (λ i. map find_of old.out.finds.items ++ lookups_of scope (at.locals i) (at.here i) c)
           ∙ ap (λ fs. map find_of old.out.finds.items ++ fs) (sym (looked_among (lookups_of scope p.locals p.here c)))
 
-      -- a limit is passed in its result
+      -- a limit is passed at it, or in its result
       pub stops_comes : (new : Search S) (d : Numbered) → Some d ≡ resolved scope (locals_of old.locals) w.trees.here c
-          → (g : Forest) → answer world d levels.depth c.argument ≡ Ok g → levels.limits ≡ None
-          → Stops Has mid new (notes_with g (result_of g).outcome.finds) → Stops Has old new (whole_left p).0.finds
-      stops_comes new d found g says inside st =
+          → (o : Option Forest) → IsTried world d levels.depth c.argument o → levels.limits ≡ None
+          → Stops Has mid new (sized (calls_of o) (put_for d) ++ behind_call_of o) → Stops Has old new (whole_left p).0.finds
+      stops_comes new d found o says inside st =
           let t : Bool = world.bursts d c.argument in
-          let ys : Notes Numbered = note_of t (Some g) ++ (result_of g).outcome.finds in
-          let q = passing_note mid.left t g (result_of g).outcome.finds st.passed st.is in
-          let all : (whole_left p).0.finds ≡ (xs ++ ys) ++ rest_here d = all_finds d found ∙ ap (λ fs. (xs ++ fs) ++ rest_here d) (result_notes d g says inside) in record {
+          let ys : Notes Numbered = note_of t o (put_for d) ++ behind_call_of o in
+          let q = passing_note mid.left t o (put_for d) (behind_call_of o) st.passed st.is in
+          let all : (whole_left p).0.finds ≡ (xs ++ ys) ++ rest_here d = all_finds d found ∙ ap (λ fs. (xs ++ fs) ++ rest_here d) (result_notes d o says inside) in record {
             passed = behind_notes xs q.0;
             is = ap (passing old.left) all ∙ passing_before old.left (xs ++ ys) (rest_here d) (behind_notes xs q.0)
                 (passing_more old.left mid.left xs ys looked_spends ∙ ap (option_map (behind_notes xs)) q.1.0);
@@ -716,6 +754,18 @@ module _ (dialect : Dialect) (world : World Numbered) (scope : List ℕ → Opti
             front = st.front;
             locals = st.locals ∙ ap (λ l. st.front ++ locals_of l) same_locals;
           }
+
+      -- a limit is passed at it
+      pub stops_over : (new : Search S) (d : Numbered) → Some d ≡ resolved scope (locals_of old.locals) w.trees.here c
+          → left_behind mid.left (trial world d levels.depth c.argument) ≡ None → levels.limits ≡ None
+          → new ≡ mid → Stops Has old new (whole_left p).0.finds
+      stops_over new d found over inside same =
+          let o : Option Forest = world.fit d c.argument in
+          let says : IsTried world d levels.depth c.argument o = tried_over d world levels.depth c.argument mid.left over in
+          stops_comes new d found o says inside
+          (stops_at_once Has mid new (calls_of o) (put_for d) (behind_call_of o)
+          (ap (left_behind mid.left) (sym (tried_note d world levels.depth c.argument o says)) ∙ over)
+          (ap (λ (s : Search S). s.out) same) (ap (λ (s : Search S). s.locals) same))
 
       -- ---- too many tokens
 
@@ -737,14 +787,14 @@ module _ (dialect : Dialect) (world : World Numbered) (scope : List ℕ → Opti
       )
 
       pub result_too_many : (d : Numbered) → Some d ≡ resolved scope (locals_of old.locals) w.trees.here c → (g : Forest) → answer world d levels.depth c.argument ≡ Ok g
-          → IsApart levels.limits old.left → (result_of g).outcome.bursts ≡ true → BurstsFirst mid.left (notes_with g (result_of g).outcome.finds)
-          → BurstsFirst levels.limits (notes_with g (result_of g).outcome.finds) → BurstsIn old.left (whole_left p).0
+          → IsApart levels.limits old.left → (result_of g).outcome.bursts ≡ true → BurstsFirst mid.left (notes_with (put_for d) (result_of g).outcome.finds)
+          → BurstsFirst levels.limits (notes_with (put_for d) (result_of g).outcome.finds) → BurstsIn old.left (whole_left p).0
       result_too_many d found g says apart much first own = (
         result_bursts dialect world scope levels outer p plain c call_is d (resolved_is (Some d) found) g says
             (ap (λ (x : Scoped (Noted Numbered)). x.outcome.bursts) (sym (result_is d g)) ∙ much)
             (subst (BurstsFirst levels.limits) (notes_is d g) own),
         first_by (whole_left p).0.finds levels.limits refl apart
-            (λ inside. first_in d found (subst (BurstsFirst mid.left) (sym (result_notes d g says inside)) (bursts_note mid.left (world.bursts d c.argument) g (result_of g).outcome.finds first))),
+            (λ inside. first_in d found (subst (BurstsFirst mid.left) (sym (result_notes d (Some g) (tried_ok d world levels.depth c.argument g says) inside)) (bursts_note mid.left (world.bursts d c.argument) (Some g) (put_for d) (result_of g).outcome.finds first))),
       )
 
     -- ---- what would be a call but for the `::` before it

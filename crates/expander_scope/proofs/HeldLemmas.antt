@@ -115,6 +115,7 @@ pub present_world : (world : World Definition) → LooksAtNoPlace world → (sta
 present_world world law start before = record {
   broken = λ d. law.broken (resolve start before) (anchored_definition d);
   fit = λ d a. law.fit (resolve start before) (λ s. refl) (anchored_definition d) a;
+  put_out = λ d a. law.put_out (resolve start before) (λ s. refl) (anchored_definition d) a;
   bursts = λ d a. law.bursts (resolve start before) (λ s. refl) (anchored_definition d) a;
 }
 

@@ -14,6 +14,7 @@ mod NameStackLemmas
 mod LocalLemmas
 mod ListLemmas
 mod SpendingLemmas
+mod ChargeLemmas
 mod ReplaceLemmas
 mod CallResultLemmas
 mod GoesLemmas

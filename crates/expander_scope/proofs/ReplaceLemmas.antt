@@ -4,16 +4,16 @@ use Rattle.std.specs.Prelude.{Result, Ok, Err, IfOk, Option, None, map, option_m
 use Rattle.expander_model.specs.Definitions.{Definition}
 use Rattle.expander_model.specs.Expansion.{Outcome, PlacedStep}
 use Rattle.expander_model.specs.Held.{Numbered}
-use Rattle.expander_model.specs.Limits.{Noted, Notes, passed_at_once}
+use Rattle.expander_model.specs.Limits.{Noted, Notes, passed_at_once, sized}
 use Rattle.expander_model.specs.Scoping.{Scoped}
 use Rattle.expander_model.specs.declared.limits.Limits.{Limits}
 use Rattle.expander_scope.specs.LocalTables.{locals_of}
 use Rattle.expander_scope.specs.Outcomes.{find_of}
-use Rattle.expander_scope.specs.Spending.{BurstsFirst, BurstsIn, Searched, Spends, Stops, TakesBack, left_behind, sized}
+use Rattle.expander_scope.specs.Spending.{BurstsFirst, BurstsIn, Searched, Spends, Stops, TakesBack, left_behind, passing, with_left}
 use Rattle.expander_scope.specs.Expanding.{Adds}
 use Rattle.expander_scope.specs.Sinks.{TakesMore}
 use Rattle.expander_scope.specs.declared.expand.Expanding.{Expanding}
-use Rattle.expander_scope.proofs.SpendingLemmas.{behind_notes, bursts_more, passed_here, passing_more, spends_more}
+use Rattle.expander_scope.proofs.SpendingLemmas.{behind_notes, bursts_more, none_passed, passed_here, passing_more, spends_more}
 use Rattle.expander_scope.specs.declared.expand.Search.{Search}
 
 pub take-front : {X : Type 0} (xs ys : List X) → take (length xs) (xs ++ ys) ≡ xs
@@ -60,10 +60,10 @@ module _ {S : Type 0} (Has : S → List PlacedStep → Type 0) where
   -- ---- what a call gives counts
 
   -- it passes a limit at once
-  pub stops_at_once : (old new : Search S) (n : ℕ) (ys : Notes Numbered) → left_behind old.left (sized n) ≡ None → new.out ≡ old.out → new.locals ≡ old.locals → Stops Has old new (sized n ++ ys)
-  stops_at_once old new n ys over out locals = record {
+  pub stops_at_once : (old new : Search S) (c n : ℕ) (ys : Notes Numbered) → left_behind old.left (sized c n) ≡ None → new.out ≡ old.out → new.locals ≡ old.locals → Stops Has old new (sized c n ++ ys)
+  stops_at_once old new c n ys over out locals = record {
     passed = passed_at_once;
-    is = passed_here old.left n ys over;
+    is = passed_here old.left c n ys over;
     finds = ap (λ (e : Expanding S). map find_of e.finds.items) out ∙ sym (append-nil (map find_of old.out.finds.items));
     steps = [];
     takes = λ before has. subst (Has new.out.output) (sym (append-nil before)) (subst (λ (e : Expanding S). Has e.output before) (sym out) has);
@@ -73,18 +73,18 @@ module _ {S : Type 0} (Has : S → List PlacedStep → Type 0) where
     locals = ap locals_of locals;
   }
 
-  module _ (old mid new : Search S) (n : ℕ) (counted : Spends old.left mid.left (sized n)) (out : mid.out ≡ old.out) (locals : mid.locals ≡ old.locals) where
-    pub searched_more : (a : Scoped (Noted Numbered)) → Searched Has mid new a a.outcome.finds → Searched Has old new a (sized n ++ a.outcome.finds)
+  module _ (old mid new : Search S) (c n : ℕ) (counted : Spends old.left mid.left (sized c n)) (out : mid.out ≡ old.out) (locals : mid.locals ≡ old.locals) where
+    pub searched_more : (a : Scoped (Noted Numbered)) → Searched Has mid new a a.outcome.finds → Searched Has old new a (sized c n ++ a.outcome.finds)
     searched_more a all = record {
       adds = subst (λ (e : Expanding S). Adds Has e new.out a.outcome) out all.adds;
       locals = all.locals ∙ ap (λ l. a.defines ++ locals_of l) locals;
-      spends = spends_more old.left mid.left new.left (sized n) a.outcome.finds counted all.spends;
+      spends = spends_more old.left mid.left new.left (sized c n) a.outcome.finds counted all.spends;
     }
 
-    pub stops_more : (ys : Notes Numbered) → Stops Has mid new ys → Stops Has old new (sized n ++ ys)
+    pub stops_more : (ys : Notes Numbered) → Stops Has mid new ys → Stops Has old new (sized c n ++ ys)
     stops_more ys st = record {
       passed = st.passed;
-      is = passing_more old.left mid.left (sized n) ys counted ∙ ap (option_map (behind_notes (sized n))) st.is;
+      is = passing_more old.left mid.left (sized c n) ys counted ∙ ap (option_map (behind_notes (sized c n))) st.is;
       finds = st.finds ∙ ap (λ (e : Expanding S). map find_of e.finds.items ++ st.passed.finds) out;
       steps = st.steps;
       takes = subst (λ (e : Expanding S). TakesMore Has e.output new.out.output st.steps) out st.takes;
@@ -94,5 +94,18 @@ module _ {S : Type 0} (Has : S → List PlacedStep → Type 0) where
       locals = st.locals ∙ ap (λ l. st.front ++ locals_of l) locals;
     }
 
-    pub bursts_in_more : (a : Outcome (Noted Numbered)) → BurstsIn mid.left a → (a.bursts ≡ true) × BurstsFirst old.left (sized n ++ a.finds)
-    bursts_in_more a much = (much.0, bursts_more old.left mid.left (sized n) a.finds counted much.1)
+    pub bursts_in_more : (a : Outcome (Noted Numbered)) → BurstsIn mid.left a → (a.bursts ≡ true) × BurstsFirst old.left (sized c n ++ a.finds)
+    bursts_in_more a much = (much.0, bursts_more old.left mid.left (sized c n) a.finds counted much.1)
+
+  -- outside of all calls nothing is left before or behind, so anything is spent
+  pub searched_outside : (old stopped : Search S) (left : Option Limits) (a : Scoped (Noted Numbered)) (notes : Notes Numbered) → old.left ≡ None
+      → Searched Has (with_left old left) stopped a a.outcome.finds → Searched Has old (with_left stopped None) a notes
+  searched_outside old stopped left a notes none all = record {
+    adds = all.adds;
+    locals = all.locals;
+    spends = subst (λ x. Spends x None notes) (sym none) refl;
+  }
+
+-- no limit is passed in what is spent, with what was spent before
+pub fits_own : (own left rest : Option Limits) (c n : ℕ) (ys : Notes Numbered) → Spends own left (sized c n) → Spends left rest ys → passing own (sized c n ++ ys) ≡ None
+fits_own own left rest c n ys counted more = none_passed own rest (sized c n ++ ys) (spends_more own left rest (sized c n) ys counted more)

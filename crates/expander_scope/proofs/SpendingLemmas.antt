@@ -1,14 +1,14 @@
 -- What is left of limits behind notes, and where one is passed among them.
 use Rattle.std.proofs.Common.{◌≡◌, ℕ, ◌-◌, List, [], ◌∷◌, ◌++◌, refl, sym, ap, subst, ◌∙◌, append_assoc, append-nil, Bool, true, false, if◌then◌else◌}
 use Rattle.std.specs.Prelude.{Option, Some, None, is_some, option_map, ◌||◌}
-use Rattle.tt_data.specs.Forest.{Forest, size}
+use Rattle.tt_data.specs.Forest.{Forest}
 use Rattle.expander_model.specs.Held.{Numbered}
-use Rattle.expander_model.specs.Limits.{Notes, Passed, burst, definition, result, looked_in, note_of, passed_at_once, burst_before, found_before, until_passed}
+use Rattle.expander_model.specs.Limits.{Notes, Passed, burst, calls_of, definition, tried, looked_in, note_of, passed_at_once, sized, burst_before, found_before, until_passed}
 use Rattle.expander_model.specs.declared.limits.Limits.{Limits}
 use Rattle.tt_data.specs.declared.span.Span.{Span}
 use Rattle.expander_model.specs.declared.dialect.Dialect.{Dialect}
-use Rattle.expander_scope.specs.Expanding.{among_notes, limits_at}
-use Rattle.expander_scope.specs.Spending.{BurstsFirst, Spends, is_passed, left_behind, less_one, limits_behind, passing, sized}
+use Rattle.expander_scope.specs.Expanding.{among_notes, left_within, limits_at, limits_for}
+use Rattle.expander_scope.specs.Spending.{BurstsFirst, Spends, is_passed, left_behind, less_by, limits_behind, passing}
 
 -- ---- what is left
 
@@ -18,9 +18,9 @@ not_passed false o b e = (refl, e)
 
 behind_more : (l : Limits) (b : Option Limits) (xs ys : Notes Numbered) → option_map Some (limits_behind l xs) ≡ Some b → option_map Some (limits_behind l (xs ++ ys)) ≡ left_behind b ys
 behind_more l b [] ys e = let is : Some l ≡ b = cc e in ap (λ o. left_behind o ys) is
-behind_more l b ((key, Some (result n)) ∷ xs) ys e =
-    let h = not_passed (is_passed l n) (limits_behind (less_one l n) xs) b e in
-    ap (λ c. option_map Some (if c then None else limits_behind (less_one l n) (xs ++ ys))) h.0 ∙ behind_more (less_one l n) b xs ys h.1
+behind_more l b ((key, Some (tried c n)) ∷ xs) ys e =
+    let h = not_passed (is_passed l c n) (limits_behind (less_by l c n) xs) b e in
+    ap (λ t. option_map Some (if t then None else limits_behind (less_by l c n) (xs ++ ys))) h.0 ∙ behind_more (less_by l c n) b xs ys h.1
 behind_more l b ((key, Some burst) ∷ xs) ys e = behind_more l b xs ys e
 behind_more l b ((key, Some (definition d)) ∷ xs) ys e = behind_more l b xs ys e
 behind_more l b ((key, None) ∷ xs) ys e = behind_more l b xs ys e
@@ -47,17 +47,11 @@ spends_looks (Some l) [] = refl
 spends_looks (Some l) ((key, Some d) ∷ xs) = spends_looks (Some l) xs
 spends_looks (Some l) ((key, None) ∷ xs) = spends_looks (Some l) xs
 
--- neither does a call that gives nothing
-pub spends_none : (a : Option Limits) (b : Bool) → Spends a a (note_of b None)
-spends_none None b = refl
-spends_none (Some l) true = refl
-spends_none (Some l) false = refl
-
--- a call costs its size, whether a rule puts out too much or not
-pub spends_note : (a c : Option Limits) (b : Bool) (g : Forest) (ys : Notes Numbered) → Spends a c (sized (size g) ++ ys) → Spends a c (note_of b (Some g) ++ ys)
-spends_note None c b g ys e = e
-spends_note (Some l) c true g ys e = e
-spends_note (Some l) c false g ys e = e
+-- a call costs the same, whether a rule puts out too much or not
+pub spends_note : (a c : Option Limits) (b : Bool) (o : Option Forest) (n : ℕ) (ys : Notes Numbered) → Spends a c (sized (calls_of o) n ++ ys) → Spends a c (note_of b o n ++ ys)
+spends_note None c b o n ys e = e
+spends_note (Some l) c true o n ys e = e
+spends_note (Some l) c false o n ys e = e
 
 -- ---- where a limit is passed
 
@@ -65,7 +59,7 @@ spends_note (Some l) c false g ys e = e
 abbrev pub has_burst : Notes Numbered → Bool
 has_burst [] = false
 has_burst ((key, Some burst) ∷ xs) = true
-has_burst ((key, Some (result n)) ∷ xs) = has_burst xs
+has_burst ((key, Some (tried c n)) ∷ xs) = has_burst xs
 has_burst ((key, Some (definition d)) ∷ xs) = has_burst xs
 has_burst ((key, None) ∷ xs) = has_burst xs
 
@@ -92,9 +86,9 @@ mapped_none key xs (Some p) = refl
 until_more : (l : Limits) (b : Option Limits) (xs ys : Notes Numbered) → option_map Some (limits_behind l xs) ≡ Some b
     → until_passed l.calls l.tokens (xs ++ ys) ≡ option_map (behind_notes xs) (passing b ys)
 until_more l b [] ys e = let is : Some l ≡ b = cc e in ap (λ o. passing o ys) is ∙ behind_none (passing b ys)
-until_more l b ((key, Some (result n)) ∷ xs) ys e =
-    let h = not_passed (is_passed l n) (limits_behind (less_one l n) xs) b e in
-    ap (λ c. if c then Some passed_at_once else until_passed (l.calls - 1) (l.tokens - n) (xs ++ ys)) h.0 ∙ until_more (less_one l n) b xs ys h.1
+until_more l b ((key, Some (tried c n)) ∷ xs) ys e =
+    let h = not_passed (is_passed l c n) (limits_behind (less_by l c n) xs) b e in
+    ap (λ t. if t then Some passed_at_once else until_passed (l.calls - c) (l.tokens - n) (xs ++ ys)) h.0 ∙ until_more (less_by l c n) b xs ys h.1
 until_more l b ((key, Some burst) ∷ xs) ys e = ap (option_map burst_before) (until_more l b xs ys e) ∙ mapped_burst key xs (passing b ys)
 until_more l b ((key, Some (definition d)) ∷ xs) ys e = ap (option_map (found_before (key, Some d))) (until_more l b xs ys e) ∙ mapped_find key d xs (passing b ys)
 until_more l b ((key, None) ∷ xs) ys e = ap (option_map (found_before (key, None))) (until_more l b xs ys e) ∙ mapped_none key xs (passing b ys)
@@ -123,8 +117,8 @@ passed_or false q o o' p f e = f e
 
 until_before : (calls tokens : ℕ) (xs ys : Notes Numbered) (p : Passed Numbered) → until_passed calls tokens xs ≡ Some p → until_passed calls tokens (xs ++ ys) ≡ Some p
 until_before calls tokens [] ys p e = absurd (cc e)
-until_before calls tokens ((key, Some (result n)) ∷ xs) ys p e =
-    passed_or _ passed_at_once (until_passed (calls - 1) (tokens - n) xs) (until_passed (calls - 1) (tokens - n) (xs ++ ys)) p (until_before (calls - 1) (tokens - n) xs ys p) e
+until_before calls tokens ((key, Some (tried c n)) ∷ xs) ys p e =
+    passed_or _ passed_at_once (until_passed (calls - c) (tokens - n) xs) (until_passed (calls - c) (tokens - n) (xs ++ ys)) p (until_before (calls - c) (tokens - n) xs ys p) e
 until_before calls tokens ((key, Some burst) ∷ xs) ys p e =
     let h = mapped_some burst_before (until_passed calls tokens xs) p e in
     ap (option_map burst_before) (until_before calls tokens xs ys h.0 h.1.0) ∙ ap Some h.1.1
@@ -145,21 +139,21 @@ gone_at true l o e = refl
 gone_at false l o e = absurd (cc e)
 
 -- the first call passes it
-pub passed_here : (a : Option Limits) (n : ℕ) (ys : Notes Numbered) → left_behind a (sized n) ≡ None → passing a (sized n ++ ys) ≡ Some passed_at_once
-passed_here None n ys e = absurd (cc e)
-passed_here (Some l) n ys e = gone_at (is_passed l n) (less_one l n) (until_passed (l.calls - 1) (l.tokens - n) ys) e
+pub passed_here : (a : Option Limits) (c n : ℕ) (ys : Notes Numbered) → left_behind a (sized c n) ≡ None → passing a (sized c n ++ ys) ≡ Some passed_at_once
+passed_here None c n ys e = absurd (cc e)
+passed_here (Some l) c n ys e = gone_at (is_passed l c n) (less_by l c n) (until_passed (l.calls - c) (l.tokens - n) ys) e
 
 -- whether a rule puts out too much or not
-pub passing_note : (a : Option Limits) (b : Bool) (g : Forest) (ys : Notes Numbered) (p : Passed Numbered) → passing a (sized (size g) ++ ys) ≡ Some p
-    → (q : Passed Numbered) × ((passing a (note_of b (Some g) ++ ys) ≡ Some q) × (q.finds ≡ p.finds))
-passing_note None b g ys p e = absurd (cc e)
-passing_note (Some l) true g ys p e = (burst_before p, (ap (option_map burst_before) e, refl))
-passing_note (Some l) false g ys p e = (p, (e, refl))
+pub passing_note : (a : Option Limits) (b : Bool) (o : Option Forest) (n : ℕ) (ys : Notes Numbered) (p : Passed Numbered) → passing a (sized (calls_of o) n ++ ys) ≡ Some p
+    → (q : Passed Numbered) × ((passing a (note_of b o n ++ ys) ≡ Some q) × (q.finds ≡ p.finds))
+passing_note None b o n ys p e = absurd (cc e)
+passing_note (Some l) true o n ys p e = (burst_before p, (ap (option_map burst_before) e, refl))
+passing_note (Some l) false o n ys p e = (p, (e, refl))
 
-pub none_passed_note : (a : Option Limits) (b : Bool) (g : Forest) (ys : Notes Numbered) → passing a (sized (size g) ++ ys) ≡ None → passing a (note_of b (Some g) ++ ys) ≡ None
-none_passed_note None b g ys e = refl
-none_passed_note (Some l) true g ys e = ap (option_map burst_before) e
-none_passed_note (Some l) false g ys e = e
+pub none_passed_note : (a : Option Limits) (b : Bool) (o : Option Forest) (n : ℕ) (ys : Notes Numbered) → passing a (sized (calls_of o) n ++ ys) ≡ None → passing a (note_of b o n ++ ys) ≡ None
+none_passed_note None b o n ys e = refl
+none_passed_note (Some l) true o n ys e = ap (option_map burst_before) e
+none_passed_note (Some l) false o n ys e = e
 
 -- ---- too much, before a limit is passed
 
@@ -182,17 +176,15 @@ pub bursts_before : (a : Option Limits) (xs ys : Notes Numbered) → BurstsFirst
 bursts_before a xs ys first more p is = first (ys ++ more) p (ap (passing a) (sym (append_assoc xs ys more)) ∙ is)
 
 -- at once
-pub bursts_here : (a : Option Limits) (o : Option Forest) (ys : Notes Numbered) → BurstsFirst a (note_of true o ++ ys)
-bursts_here None o ys more p e = absurd (cc e)
-bursts_here (Some l) None ys more p e =
-    let h = mapped_some burst_before (until_passed l.calls l.tokens (ys ++ more)) p e in sym (ap (λ (q : Passed Numbered). q.bursts) h.1.1)
-bursts_here (Some l) (Some g) ys more p e =
-    let h = mapped_some burst_before (until_passed l.calls l.tokens ((([], Some (result (size g))) ∷ ys) ++ more)) p e in sym (ap (λ (q : Passed Numbered). q.bursts) h.1.1)
+pub bursts_here : (a : Option Limits) (o : Option Forest) (n : ℕ) (ys : Notes Numbered) → BurstsFirst a (note_of true o n ++ ys)
+bursts_here None o n ys more p e = absurd (cc e)
+bursts_here (Some l) o n ys more p e =
+    let h = mapped_some burst_before (until_passed l.calls l.tokens ((sized (calls_of o) n ++ ys) ++ more)) p e in sym (ap (λ (q : Passed Numbered). q.bursts) h.1.1)
 
 -- with the note of a call
-pub bursts_note : (a : Option Limits) (b : Bool) (g : Forest) (ys : Notes Numbered) → BurstsFirst a (sized (size g) ++ ys) → BurstsFirst a (note_of b (Some g) ++ ys)
-bursts_note a true g ys first = bursts_here a (Some g) ys
-bursts_note a false g ys first = first
+pub bursts_note : (a : Option Limits) (b : Bool) (o : Option Forest) (n : ℕ) (ys : Notes Numbered) → BurstsFirst a (sized (calls_of o) n ++ ys) → BurstsFirst a (note_of b o n ++ ys)
+bursts_note a true o n ys first = bursts_here a o n ys
+bursts_note a false o n ys first = first
 
 -- ---- whose limits
 
@@ -208,6 +200,35 @@ apart_at dialect None left h = go dialect.limits
     go None = tt
     go (Some l) = h refl
 apart_at dialect (Some at) left h = tt
+
+-- a call by limits of its own leaves what is left as it was, where it passes none of them; another
+-- leaves what is left behind it
+abbrev pub Charged : (own before after : Option Limits) → Notes Numbered → Type 0
+Charged None before after notes = Spends before after notes
+Charged (Some l) before after notes = (passing (Some l) notes ≡ None) × (after ≡ before)
+
+pub charged_nothing : (own before after : Option Limits) → Charged own before after [] → Spends before after []
+charged_nothing None before after h = h
+charged_nothing (Some l) before after h = spends_same before after h.1
+
+pub charged_at : (dialect : Dialect) (outer : Option Span) (left rest : Option Limits) (notes : Notes Numbered) → (outer ≡ None → left ≡ None)
+    → Spends (limits_for dialect outer left) rest notes → Charged (limits_at dialect outer) left (left_within outer rest) notes
+charged_at dialect (Some at) left rest notes apart e = e
+charged_at dialect None left rest notes apart e = go dialect.limits e
+  where
+    go : (o : Option Limits) → Spends o rest notes → Charged o left None notes
+    go None e = subst (λ x. Spends x None notes) (sym (apart refl)) refl
+    go (Some l) e = (none_passed (Some l) rest notes e, sym (apart refl))
+
+-- where no limits are a call's own, what is left where it begins is what is left
+pub left_inside : (dialect : Dialect) (outer : Option Span) (left : Option Limits) → (outer ≡ None → left ≡ None) → limits_at dialect outer ≡ None → limits_for dialect outer left ≡ left
+left_inside dialect (Some at) left apart e = refl
+left_inside dialect None left apart e = e ∙ sym (apart refl)
+
+-- and where they are, it is these
+pub left_outside : (dialect : Dialect) (outer : Option Span) (left : Option Limits) → is_some outer ≡ false → limits_for dialect outer left ≡ limits_at dialect outer
+left_outside dialect (Some at) left e = absurd (cc e)
+left_outside dialect None left e = refl
 
 pub none_outside : (outer : Option Span) → is_some outer ≡ false → outer ≡ None
 none_outside None e = refl

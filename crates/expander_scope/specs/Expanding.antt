@@ -11,7 +11,7 @@ use Rattle.expander_model.specs.Changes.{find_with}
 use Rattle.expander_model.specs.Expansion.{World, Outcome, PlacedStep, just}
 use Rattle.expander_model.specs.Definitions.{Definition}
 use Rattle.expander_model.specs.Scoping.{Around, Attempt, Expander, Scoped, Search, defined, only}
-use Rattle.expander_model.specs.Limits.{Noted, Notes, definition, limited, looked_in, noted, noted_attempt, noted_list, noted_world}
+use Rattle.expander_model.specs.Limits.{Noted, Notes, calls_of, definition, limited, looked_in, noted, noted_attempt, noted_list, noted_world, sized}
 use Rattle.expander_model.specs.declared.limits.Limits.{Limits}
 use Rattle.expander_model.specs.declared.scope_rules.Standing.{Standing}
 use Rattle.expander_scope.specs.LocalTables.{locals_of}
@@ -33,6 +33,12 @@ answer_at zero given = Err RecursionLimit
 answer_at (suc n) None = Err CannotExpand
 answer_at (suc n) (Some result) = Ok result
 
+-- the note of a call of a valid definition with so many levels left, which gives this or nothing,
+-- and for which rules put out so many tokens
+abbrev pub trial_at : ℕ → Option Forest → ℕ → Notes Numbered
+trial_at zero given tokens = []
+trial_at (suc n) given tokens = sized (calls_of given) tokens
+
 -- a definition of a list, where notes are among definitions
 abbrev pub noted_local : Definition → Noted Numbered
 noted_local d = definition (unnumbered d)
@@ -50,6 +56,17 @@ pub record Levels : Type 0 where
 abbrev pub limits_at : Dialect → Option Span → Option Limits
 limits_at dialect None = dialect.limits
 limits_at dialect (Some at) = None
+
+-- what is left where a call begins: all that the dialect allows, or in what comes of another call
+-- what that one has left
+abbrev pub limits_for : Dialect → Option Span → Option Limits → Option Limits
+limits_for dialect None left = dialect.limits
+limits_for dialect (Some at) left = left
+
+-- what is left behind a call, if this was left of its limits: outside of all calls there are none
+abbrev pub left_within : Option Span → Option Limits → Option Limits
+left_within None left = None
+left_within (Some at) left = left
 
 abbrev pub levels_at : Dialect → ℕ → Option Span → Levels
 levels_at dialect depth outer = record { depth = depth; limits = limits_at dialect outer }
@@ -104,6 +121,11 @@ module _ (world : World Numbered) where
   abbrev pub answer : Numbered → ℕ → Forest → Result Forest FaultKind
   answer d depth argument = if world.broken d then Err BrokenDefinition
       else answer_at depth (world.fit d argument)
+
+  -- the note of a call with so many levels left, which is there if it is tried
+  abbrev pub trial : Numbered → ℕ → Forest → Notes Numbered
+  trial d depth argument = if world.broken d then []
+      else trial_at depth (world.fit d argument) (world.put_out d argument)
 
   -- a rule of the definition is tried, and puts out too many tokens
   abbrev pub makes_too_many : Numbered → ℕ → Forest → Bool

@@ -1,12 +1,11 @@
 -- What is left of the limits of an outermost call while it is expanded, and what a search gives that
 -- stops where one is passed.
-use Rattle.std.specs.Prelude.{◌≡◌, ℕ, ◌-◌, Bool, true, ◌||◌, List, [], ◌∷◌, ◌++◌, map, nat_eq, nat_lt, Option, Some, None, option_map, if◌then◌else◌}
-use Rattle.tt_data.specs.Forest.{Forest, size}
+use Rattle.std.specs.Prelude.{◌≡◌, ℕ, ◌-◌, Bool, true, ◌||◌, List, [], ◌∷◌, ◌++◌, map, nat_lt, Option, Some, None, option_map, if◌then◌else◌}
 use Rattle.tt_data.specs.declared.span.Span.{Span}
 use Rattle.expander_model.specs.Definitions.{Definition}
 use Rattle.expander_model.specs.Expansion.{Outcome, PlacedStep}
 use Rattle.expander_model.specs.Held.{Numbered}
-use Rattle.expander_model.specs.Limits.{Noted, Notes, Passed, burst, definition, result, until_passed}
+use Rattle.expander_model.specs.Limits.{Noted, Notes, Passed, burst, definition, sized, tried, until_passed}
 use Rattle.expander_model.specs.Scoping.{Scoped}
 use Rattle.expander_model.specs.declared.fault.FaultKind.{FaultKind}
 use Rattle.expander_model.specs.declared.limits.Limits.{Limits}
@@ -16,19 +15,19 @@ use Rattle.expander_scope.specs.Outcomes.{find_of}
 use Rattle.expander_scope.specs.Sinks.{TakesMore}
 use Rattle.expander_scope.specs.declared.expand.Search.{Search}
 
--- a limit is passed by one call more, whose result has so many tokens
-abbrev pub is_passed : Limits → ℕ → Bool
-is_passed limits n = nat_eq limits.calls 0 || nat_lt limits.tokens n
+-- a limit is passed by so many calls or tokens more
+abbrev pub is_passed : Limits → (calls tokens : ℕ) → Bool
+is_passed limits c n = nat_lt limits.calls c || nat_lt limits.tokens n
 
--- what is left behind it
-abbrev pub less_one : Limits → ℕ → Limits
-less_one limits n = record { calls = limits.calls - 1; tokens = limits.tokens - n }
+-- what is left behind them
+abbrev pub less_by : Limits → (calls tokens : ℕ) → Limits
+less_by limits c n = record { calls = limits.calls - c; tokens = limits.tokens - n }
 
 -- what is left behind these notes, if no limit is passed in them
 abbrev pub limits_behind : Limits → Notes Numbered → Option Limits
 limits_behind limits [] = Some limits
-limits_behind limits ((key, Some (result n)) ∷ notes) =
-    if is_passed limits n then None else limits_behind (less_one limits n) notes
+limits_behind limits ((key, Some (tried c n)) ∷ notes) =
+    if is_passed limits c n then None else limits_behind (less_by limits c n) notes
 limits_behind limits ((key, Some burst) ∷ notes) = limits_behind limits notes
 limits_behind limits ((key, Some (definition d)) ∷ notes) = limits_behind limits notes
 limits_behind limits ((key, None) ∷ notes) = limits_behind limits notes
@@ -56,13 +55,14 @@ BurstsFirst limits notes = (more : Notes Numbered) (p : Passed Numbered) →
 abbrev pub BurstsIn : Option Limits → Outcome (Noted Numbered) → Type 0
 BurstsIn limits o = (o.bursts ≡ true) × BurstsFirst limits o.finds
 
--- the note of a result of so many tokens
-abbrev pub sized : ℕ → Notes Numbered
-sized n = ([], Some (result n)) ∷ []
+-- the notes of a call that is replaced, for which rules put out so many tokens: its own, and those
+-- in its result
+abbrev pub notes_with : ℕ → Notes Numbered → Notes Numbered
+notes_with n notes = sized 1 n ++ notes
 
--- the notes of a call that gives this: its size, and those in it
-abbrev pub notes_with : Forest → Notes Numbered → Notes Numbered
-notes_with g notes = sized (size g) ++ notes
+-- the same search with so much left
+abbrev pub with_left : {S : Type 0} → Search S → Option Limits → Search S
+with_left search left = record search { left = left }
 
 -- `Has` tells which events a sink has taken
 module _ {S : Type 0} (Has : S → List PlacedStep → Type 0) where

@@ -6,6 +6,7 @@ ghost use Rattle.std.specs.Prelude.{None, Err, is_some, option_map, if◌then◌
 ghost use Rattle.mbe.specs.Bursts as made_by;
 ghost use Rattle.mbe.specs.Macros.{rules_of};
 ghost use Rattle.mbe.specs.Markers.{is_name};
+ghost use Rattle.mbe.specs.PutOut as output;
 ghost use Rattle.mbe_rules.specs.declared.macro_call_style.MacroCallStyle.TheVariants as style;
 ghost use Rattle.tt_data.specs.Forest.{Forest, empty, joined};
 ghost use Rattle.tt_data.specs.Walk.{walk};
@@ -18,16 +19,18 @@ ghost use Rattle.expander_model.specs.Definitions.{Definition, definition_of};
 ghost use Rattle.expander_model.specs.Expansion.{Deeper, PlacedStep, World, just, placed};
 ghost use Rattle.expander_model.specs.Expansion.{search_calls};
 ghost use Rattle.expander_model.specs.Held.{Numbered, numbered_world, unnumbered};
+ghost use Rattle.expander_model.specs.Limits.{calls_of, sized};
 ghost use Rattle.expander_model.specs.Scoping.{is_excused, is_left_out, unless_excused};
 ghost use Rattle.expander_model.specs.World.{fit_of, made, world};
 ghost use Rattle.textual_scope.specs.Keywords.{HasNoKeyword};
 ghost use Rattle.expander_scope.specs.Editions.{IsRead};
 ghost use Rattle.expander_scope.specs.Expanding.{Adds, Expands, Levels, answer, defined_under};
-ghost use Rattle.expander_scope.specs.Expanding.{limits_at, list_under, makes_too_many};
-ghost use Rattle.expander_scope.specs.Expanding.{result_under, stays_for, told_once, trees_of};
-ghost use Rattle.expander_scope.specs.Expanding.{world_under};
+ghost use Rattle.expander_scope.specs.Expanding.{left_within, limits_at, limits_for, list_under};
+ghost use Rattle.expander_scope.specs.Expanding.{makes_too_many, result_under, stays_for};
+ghost use Rattle.expander_scope.specs.Expanding.{told_once, trees_of, trial, world_under};
 ghost use Rattle.expander_scope.specs.Spending.{BurstsFirst, BurstsIn, Searched, Spends, Stops};
-ghost use Rattle.expander_scope.specs.Spending.{TakesBack, left_behind, notes_with, passing, sized};
+ghost use Rattle.expander_scope.specs.Spending.{TakesBack, left_behind, notes_with, passing};
+ghost use Rattle.expander_scope.specs.Spending.{with_left};
 ghost use Rattle.expander_model.specs.declared.scope_rules.Standing.TheVariants.{Argument};
 ghost use Rattle.tt_data.specs.Lent.{leaf_lent};
 ghost use Rattle.expander_model.specs.Scoping.{in_group};
@@ -57,7 +60,7 @@ use expander_model::fault::{FaultKind, is_definition_word};
 use expander_model::limits::Limits;
 use expander_model::scope_rules::{ScopeRules, Standing};
 use expander_model::tree_walk::TreeWalk;
-use mbe::{DeclarativeMacro, FragmentGrammar, MacroCallStyle};
+use mbe::{Bounds, DeclarativeMacro, FragmentGrammar, MacroCallStyle, Tried};
 use std::alloc::{AllocError, Global};
 use std::rc::Rc;
 use tt::{TopSubtree, TtIter};
@@ -160,19 +163,82 @@ fn keep<'a, S: EventSink>(
     Ok(())
 }
 
+// What comes of a call, and what is left of the limits behind it.
+#[derive(Drop)]
+struct Counted<T> {
+    given: T,
+    left: Option<Limits>,
+}
+
+// How many tokens rules may put out.
+fn most_tokens(limits: Option<Limits>) -> Option<usize>
+    ensures { result ≡ option_map (λ l. l.tokens) limits }
+{
+    match limits {
+        None => None,
+        Some(limits) => Some(limits.tokens),
+    }
+}
+
+// What a rule gives, without its number.
+fn without_number(given: Option<(u32, TopSubtree)>) -> Option<TopSubtree>
+    ensures { result ≡ option_map (λ r. r.1) given }
+{
+    match given {
+        None => None,
+        Some((_, tree)) => Some(tree),
+    }
+}
+
+// For how many calls one counts that gives this or nothing.
+fn calls_of(given: &Option<TopSubtree>) -> usize
+    ensures { result ≡ calls_of (option_map (λ t. t.inner) given.now) }
+{
+    match given {
+        None => 0,
+        Some(_) => 1,
+    }
+}
+
+// What is left of limits behind so many calls, where so many tokens are left. `None` if there are
+// too many calls.
+fn charge(limits: Option<Limits>, calls: usize, tokens: Option<usize>) -> Option<Option<Limits>>
+    ensures { (n : ℕ) → output.left_of (option_map (λ l. l.tokens) limits) n ≡ Some tokens →
+        result ≡ left_behind limits (sized calls n) }
+{
+    let Some(limits) = limits else {
+        return Some(None);
+    };
+    let Some(tokens) = tokens else {
+        return Some(None);
+    };
+    if limits.calls < calls {
+        return None;
+    }
+    Some(Some(Limits {
+        calls: limits.calls - calls,
+        tokens,
+    }))
+}
+
 // Transcribes the first rule that fits the argument, in invisible delimiters with the span
-// `place`. The tokens that the transcriber wrote are marked as synthesized. `None` if no rule
-// fits.
+// `place`. The tokens that the transcriber wrote are marked as synthesized. Nothing is given if no
+// rule fits. `None` if a limit is passed.
 fn fit<G: FragmentGrammar>(
     alloc: Global,
     grammar: &G,
     rules: &DeclarativeMacro,
     argument: &TtIter<'_>,
     place: Span,
-) -> Result<Option<TopSubtree>, TtFault>
+    limits: Option<Limits>,
+) -> Result<Option<Counted<Option<TopSubtree>>>, TtFault>
     requires { (rules_of rules.now).err ≡ None }
-    ensures fit { IfOk result (λ given. option_map (λ t. t.inner) given
-        ≡ fit_of (G.answer grammar.now) (rules_of rules.now) argument.now) }
+    ensures fit { IfOk result (λ o. IfSome o (λ a. option_map (λ t. t.inner) a.given
+        ≡ fit_of (G.answer grammar.now) (rules_of rules.now) argument.now)) }
+    ensures left { IfOk result (λ o. option_map (λ a. a.left) o ≡ left_behind limits
+        (sized (calls_of (fit_of (G.answer grammar.now) (rules_of rules.now) argument.now))
+        (output.put_out is_name (G.answer grammar.now) made (rules_of rules.now).list style.FnLike
+        argument.now))) }
     ensures tokens { result ≡ Err TtFault.Tokens →
         made_by.bursts is_name (G.answer grammar.now) made (rules_of rules.now).list style.FnLike
         argument.now ≡ true }
@@ -186,40 +252,67 @@ fn fit<G: FragmentGrammar>(
         }
     };
     let top = Delimiter::invisible_spanned(place);
+    let bounds = Bounds {
+        top,
+        most: most_tokens(limits),
+    };
     let argument = argument.remaining();
     let style = MacroCallStyle::FnLike;
-    match rules.fit(alloc, grammar, argument, &mark, style, top)? {
-        Some((_, tree)) => Ok(Some(tree)),
-        None => Ok(None),
-    }
+    let tried = rules.fit_within(alloc, grammar, argument, &mark, style, bounds)?;
+    let Some(Tried { given, left }) = tried else {
+        return Ok(None);
+    };
+    let given = without_number(given);
+    let Some(left) = charge(limits, calls_of(&given), left) else {
+        return Ok(None);
+    };
+    Ok(Some(Counted { given, left }))
 }
 
 // The result of a call of this definition. Or the fault for which the call stays: the definition
-// is invalid, no level is left, or no rule fits.
+// is invalid, no level is left, or no rule fits. `None` if a limit is passed.
 fn answer<G: FragmentGrammar>(
     env: &Environment<'_, G>,
     known: &MacroDef,
     argument: &TtIter<'_>,
     place: Span,
-) -> Result<Result<TopSubtree, FaultKind>, TtFault>
+    limits: Option<Limits>,
+) -> Result<Option<Counted<Result<TopSubtree, FaultKind>>>, TtFault>
     ensures given { (edition : Edition) → IsRead edition known.now →
-        IfOk result (λ given. trees_of given
+        IfOk result (λ o. IfSome o (λ a. trees_of a.given
         ≡ answer (numbered_world (world (G.answer env.now.grammar.now) edition env.now.dialect.now))
-        (numbered_of_known known.now) env.now.depth argument.now) }
-    ensures deep { IfOk result (λ given. OnOk given (0 < env.now.depth)) }
+        (numbered_of_known known.now) env.now.depth argument.now)) }
+    ensures left { (edition : Edition) → IsRead edition known.now →
+        IfOk result (λ o. option_map (λ a. a.left) o ≡ left_behind limits
+        (trial (numbered_world (world (G.answer env.now.grammar.now) edition env.now.dialect.now))
+        (numbered_of_known known.now) env.now.depth argument.now)) }
+    ensures deep { IfOk result (λ o. IfSome o (λ a. OnOk a.given (0 < env.now.depth))) }
     ensures tokens { (edition : Edition) → IsRead edition known.now → result ≡ Err TtFault.Tokens →
         makes_too_many
         (numbered_world (world (G.answer env.now.grammar.now) edition env.now.dialect.now))
         (numbered_of_known known.now) env.now.depth argument.now ≡ true }
 {
     if known.rules.err().is_some() {
-        return Ok(Err(FaultKind::BrokenDefinition));
+        let given = Err(FaultKind::BrokenDefinition);
+        return Ok(Some(Counted {
+            given,
+            left: limits,
+        }));
     }
     if env.depth == 0 {
-        return Ok(Err(FaultKind::RecursionLimit));
+        let given = Err(FaultKind::RecursionLimit);
+        return Ok(Some(Counted {
+            given,
+            left: limits,
+        }));
     }
-    let result = fit(env.alloc, env.grammar, &known.rules, argument, place)?;
-    Ok(result.ok_or(FaultKind::CannotExpand))
+    let rules = &known.rules;
+    let tried = fit(env.alloc, env.grammar, rules, argument, place, limits)?;
+    let Some(Counted { given, left }) = tried else {
+        return Ok(None);
+    };
+    let given = given.ok_or(FaultKind::CannotExpand);
+    Ok(Some(Counted { given, left }))
 }
 
 // An expansion so far, and the definitions of the lists around the present place.
@@ -232,24 +325,6 @@ struct Search<S> {
     left: Option<Limits>,
 }
 
-// Counts a call that gives so many tokens. `false` if a limit is passed.
-fn charge(left: &mut Option<Limits>, tokens: usize) -> bool
-    ensures counted { result ≡ true → Spends left.old left.new (sized tokens) }
-    ensures passed { result ≡ false → left_behind left.old (sized tokens) ≡ None }
-{
-    let Some(limits) = *left else {
-        return true;
-    };
-    if limits.calls == 0 || limits.tokens < tokens {
-        return false;
-    }
-    *left = Some(Limits {
-        calls: limits.calls - 1,
-        tokens: limits.tokens - tokens,
-    });
-    true
-}
-
 // The limits of a call in a list of a text. A call in what comes of another has none of its own.
 fn limits_at(dialect: &Dialect, outer: Option<Span>) -> Option<Limits>
     ensures { result ≡ limits_at dialect.now outer }
@@ -257,6 +332,27 @@ fn limits_at(dialect: &Dialect, outer: Option<Span>) -> Option<Limits>
     match outer {
         None => dialect.limits,
         Some(_) => None,
+    }
+}
+
+// What is left where a call begins: all that the dialect allows, or in what comes of another call
+// what that one has left.
+fn limits_for(dialect: &Dialect, outer: Option<Span>, left: Option<Limits>) -> Option<Limits>
+    ensures { result ≡ limits_for dialect.now outer left }
+{
+    match outer {
+        None => dialect.limits,
+        Some(_) => left,
+    }
+}
+
+// What is left behind a call, if this was left of its limits: outside of all calls there are none.
+fn left_within(outer: Option<Span>, left: Option<Limits>) -> Option<Limits>
+    ensures { result ≡ left_within outer left }
+{
+    match outer {
+        None => None,
+        Some(_) => left,
     }
 }
 
@@ -637,42 +733,69 @@ fn stay<'a, S: EventSink>(
     )
 }
 
-// Searches what a call gives, which counts. `false` if a limit is passed.
+// A limit is passed at a call. An outermost call stays with that fault, and is passed; in what
+// comes of another nothing is done. `false` there.
+fn stop_at<'a, S: EventSink>(
+    alloc: Global,
+    outer: Option<Span>,
+    search: &mut Search<S>,
+    walk: &mut ListWalk<'a>,
+    call: Call<'a>,
+    at: Span,
+) -> Result<bool, AllocError>
+    requires call { call_at walk.old.trees.here ≡ Some call }
+    ensures inside { IfOk result (λ more. more ≡ false → (is_some outer ≡ true)
+        × (search.new ≡ search.old)) }
+    ensures outside { IfOk result (λ more. more ≡ true → is_some outer ≡ false) }
+    ensures adds { (passed : Forest) → walk.old.trees.here ≡ joined passed call.entry.rest →
+        IfOk result (λ more. more ≡ true → Adds S.has_taken search.old.out search.new.out
+        (stays_for (Some (FaultKind.TooLarge, at)) outer passed)) }
+    ensures behind { IfOk result (λ more. more ≡ true →
+        GoesBehind false call.entry walk.old walk.new) }
+    ensures locals { search.new.locals ≡ search.old.locals }
+    ensures left { search.new.left ≡ search.old.left }
+{
+    if outer.is_some() {
+        return Ok(false);
+    }
+    let told = Some((FaultKind::TooLarge, at));
+    stay(alloc, outer, search, walk, call, told)?;
+    Ok(true)
+}
+
+// Searches what a call gives, within what is left behind it. `false` if a limit is passed.
 #[cycle(searching)]
 fn search_result<G: FragmentGrammar, S: EventSink>(
     env: &Environment<'_, G>,
     at: Span,
     search: &mut Search<S>,
     standing: Standing,
-    given: &TopSubtree,
+    made: &Counted<TopSubtree>,
 ) -> Result<bool, TtFault>
     requires deep { 0 < env.now.depth }
     requires read { AreRead env.now.scope.now }
     requires locals { AreReadIn env.now.scope.now.edition search.old.locals }
     ensures done { let a = result_under (G.answer env.now.grammar.now) env.now.scope.now
-        env.now.dialect.now env.now.depth standing at search.old.locals given.now.inner in
-        IfOk result (λ done. done ≡ true → Searched S.has_taken search.old search.new a
-        (notes_with given.now.inner a.outcome.finds)) }
+        env.now.dialect.now env.now.depth standing at search.old.locals made.now.given.inner in
+        IfOk result (λ done. done ≡ true → Searched S.has_taken
+        (with_left search.old made.now.left) search.new a a.outcome.finds) }
     ensures stops { let a = result_under (G.answer env.now.grammar.now) env.now.scope.now
-        env.now.dialect.now env.now.depth standing at search.old.locals given.now.inner in
-        IfOk result (λ done. done ≡ false → Stops S.has_taken search.old search.new
-        (notes_with given.now.inner a.outcome.finds)) }
+        env.now.dialect.now env.now.depth standing at search.old.locals made.now.given.inner in
+        IfOk result (λ done. done ≡ false → Stops S.has_taken
+        (with_left search.old made.now.left) search.new a.outcome.finds) }
     ensures read { OnOk result (AreReadIn env.now.scope.now.edition search.new.locals) }
     ensures tokens { let a = result_under (G.answer env.now.grammar.now) env.now.scope.now
-        env.now.dialect.now env.now.depth standing at search.old.locals given.now.inner in
-        result ≡ Err TtFault.Tokens → (a.outcome.bursts ≡ true)
-        × BurstsFirst search.old.left (notes_with given.now.inner a.outcome.finds) }
+        env.now.dialect.now env.now.depth standing at search.old.locals made.now.given.inner in
+        result ≡ Err TtFault.Tokens → BurstsIn made.now.left a.outcome }
 {
-    let trees = given.token_trees();
-    if !charge(&mut search.left, trees.len()) {
-        return Ok(false);
-    }
+    search.left = made.left;
+    let trees = made.given.token_trees();
     search_list(&env.deeper(), Some(at), search, standing, &trees.iter())
 }
 
 // Searches what a call gives: outside of other calls within the limits of the dialect, or else
-// within what is left of those of the outermost call. `false` if a limit is passed. Then what was
-// added for an outermost call is taken back, but for its look-ups.
+// within those of the outermost call, of which so much is left behind this one. `false` if a limit
+// is passed. Then what was added for an outermost call is taken back, but for its look-ups.
 #[cycle(searching)]
 fn replace<G: FragmentGrammar, S: EventSink>(
     env: &Environment<'_, G>,
@@ -680,47 +803,49 @@ fn replace<G: FragmentGrammar, S: EventSink>(
     at: Span,
     search: &mut Search<S>,
     standing: Standing,
-    given: &TopSubtree,
+    made: &Counted<TopSubtree>,
 ) -> Result<bool, TtFault>
     requires deep { 0 < env.now.depth }
     requires read { AreRead env.now.scope.now }
     requires locals { AreReadIn env.now.scope.now.edition search.old.locals }
     requires left { outer ≡ None → search.old.left ≡ None }
     ensures done { let a = result_under (G.answer env.now.grammar.now) env.now.scope.now
-        env.now.dialect.now env.now.depth standing at search.old.locals given.now.inner in
-        IfOk result (λ done. done ≡ true → Searched S.has_taken search.old search.new a
-        (notes_with given.now.inner a.outcome.finds)) }
+        env.now.dialect.now env.now.depth standing at search.old.locals made.now.given.inner in
+        (n : ℕ) → Spends (limits_for env.now.dialect.now outer search.old.left) made.now.left
+        (sized 1 n) → IfOk result (λ done. done ≡ true → Searched S.has_taken search.old search.new
+        a (notes_with n a.outcome.finds)) }
     ensures fits { let a = result_under (G.answer env.now.grammar.now) env.now.scope.now
-        env.now.dialect.now env.now.depth standing at search.old.locals given.now.inner in
-        IfOk result (λ done. done ≡ true → passing (limits_at env.now.dialect.now outer)
-        (notes_with given.now.inner a.outcome.finds) ≡ None) }
+        env.now.dialect.now env.now.depth standing at search.old.locals made.now.given.inner in
+        (n : ℕ) → Spends (limits_for env.now.dialect.now outer search.old.left) made.now.left
+        (sized 1 n) → IfOk result (λ done. done ≡ true →
+        passing (limits_at env.now.dialect.now outer) (notes_with n a.outcome.finds) ≡ None) }
     ensures stops { let a = result_under (G.answer env.now.grammar.now) env.now.scope.now
-        env.now.dialect.now env.now.depth standing at search.old.locals given.now.inner in
-        IfOk result (λ done. done ≡ false → is_some outer ≡ true →
-        Stops S.has_taken search.old search.new
-        (notes_with given.now.inner a.outcome.finds)) }
+        env.now.dialect.now env.now.depth standing at search.old.locals made.now.given.inner in
+        (n : ℕ) → Spends (limits_for env.now.dialect.now outer search.old.left) made.now.left
+        (sized 1 n) → IfOk result (λ done. done ≡ false → is_some outer ≡ true →
+        Stops S.has_taken search.old search.new (notes_with n a.outcome.finds)) }
     ensures back { let a = result_under (G.answer env.now.grammar.now) env.now.scope.now
-        env.now.dialect.now env.now.depth standing at search.old.locals given.now.inner in
-        IfOk result (λ done. done ≡ false → is_some outer ≡ false →
+        env.now.dialect.now env.now.depth standing at search.old.locals made.now.given.inner in
+        (n : ℕ) → Spends (limits_for env.now.dialect.now outer search.old.left) made.now.left
+        (sized 1 n) → IfOk result (λ done. done ≡ false → is_some outer ≡ false →
         TakesBack S.has_taken (limits_at env.now.dialect.now outer) search.old search.new
-        (notes_with given.now.inner a.outcome.finds)) }
+        (notes_with n a.outcome.finds)) }
     ensures read { OnOk result (AreReadIn env.now.scope.now.edition search.new.locals) }
     ensures tokens { let a = result_under (G.answer env.now.grammar.now) env.now.scope.now
-        env.now.dialect.now env.now.depth standing at search.old.locals given.now.inner in
-        result ≡ Err TtFault.Tokens → (a.outcome.bursts ≡ true)
-        × (BurstsFirst search.old.left (notes_with given.now.inner a.outcome.finds)
-        × BurstsFirst (limits_at env.now.dialect.now outer)
-        (notes_with given.now.inner a.outcome.finds)) }
+        env.now.dialect.now env.now.depth standing at search.old.locals made.now.given.inner in
+        (n : ℕ) → Spends (limits_for env.now.dialect.now outer search.old.left) made.now.left
+        (sized 1 n) → result ≡ Err TtFault.Tokens → (a.outcome.bursts ≡ true)
+        × (BurstsFirst search.old.left (notes_with n a.outcome.finds)
+        × BurstsFirst (limits_at env.now.dialect.now outer) (notes_with n a.outcome.finds)) }
 {
     let limits = limits_at(env.dialect, outer);
     if limits.is_none() {
-        return search_result(env, at, search, standing, given);
+        return search_result(env, at, search, standing, made);
     }
     let mark = search.out.output.mark();
     let told = search.out.faults.len();
     let around = search.locals.len();
-    search.left = limits;
-    let done = search_result(env, at, search, standing, given)?;
+    let done = search_result(env, at, search, standing, made)?;
     search.left = None;
     if !done {
         take_back(search, mark, told, around);
@@ -767,20 +892,22 @@ fn expand_call<'a, G: FragmentGrammar, S: EventSink>(
         return Ok(true);
     };
     let at = outer.unwrap_or(call.name.span);
-    match answer(env, known.as_ref(), &call.argument, at)? {
+    let limits = limits_for(env.dialect, outer, search.left);
+    let tried = answer(env, known.as_ref(), &call.argument, at, limits)?;
+    let Some(Counted { given, left }) = tried else {
+        return Ok(stop_at(env.alloc, outer, search, walk, call, at)?);
+    };
+    match given {
         Ok(given) => {
-            if replace(env, outer, at, search, walk.standing, &given)? {
-                pass_call(env.dialect, walk, call);
-                return Ok(true);
+            let made = Counted { given, left };
+            if !replace(env, outer, at, search, walk.standing, &made)? {
+                return Ok(stop_at(env.alloc, outer, search, walk, call, at)?);
             }
-            if outer.is_some() {
-                return Ok(false);
-            }
-            let told = Some((FaultKind::TooLarge, at));
-            stay(env.alloc, outer, search, walk, call, told)?;
+            pass_call(env.dialect, walk, call);
             Ok(true)
         }
         Err(kind) => {
+            search.left = left_within(outer, left);
             let told = told_of(env.dialect, walk.standing, kind, at);
             stay(env.alloc, outer, search, walk, call, told)?;
             Ok(true)

@@ -11,6 +11,7 @@ use Rattle.mbe_rules.specs.Relabelling.{rule_with, rules_with}
 use Rattle.mbe_rules.specs.declared.macro_call_style.MacroCallStyle.{MacroCallStyle}
 use Rattle.mbe_rules.specs.declared.macro_call_style.MacroCallStyle.TheVariants.{FnLike}
 use Rattle.mbe.specs.Bursts as made_by
+use Rattle.mbe.specs.PutOut as counted
 use Rattle.mbe.specs.Fit.{fit, fit_with}
 use Rattle.mbe.specs.Grammar.{Grammar}
 use Rattle.mbe.specs.Markers.{is_name}
@@ -38,6 +39,9 @@ pub record RuleLaws : Type 0 where
   pub fits : (f : Span → Span) (is_identifier : List ℕ → Bool) (grammar : Grammar) (mark : Span → Span)
       → ((s : Span) → f (mark s) ≡ mark (f s)) → (list : List Rule) (style : MacroCallStyle) (argument : Forest)
       → fit is_identifier grammar mark (map (rule_with f) list) style (map_spans f argument) ≡ fit_with f (fit is_identifier grammar mark list style argument)
+  pub put_out : (f : Span → Span) (is_identifier : List ℕ → Bool) (grammar : Grammar) (mark : Span → Span)
+      → ((s : Span) → f (mark s) ≡ mark (f s)) → (list : List Rule) (style : MacroCallStyle) (argument : Forest)
+      → counted.put_out is_identifier grammar mark (map (rule_with f) list) style (map_spans f argument) ≡ counted.put_out is_identifier grammar mark list style argument
   pub bursts : (f : Span → Span) (is_identifier : List ℕ → Bool) (grammar : Grammar) (mark : Span → Span)
       → ((s : Span) → f (mark s) ≡ mark (f s)) → (list : List Rule) (style : MacroCallStyle) (argument : Forest)
       → made_by.bursts is_identifier grammar mark (map (rule_with f) list) style (map_spans f argument) ≡ made_by.bursts is_identifier grammar mark list style argument
@@ -72,6 +76,9 @@ world_at_other_places laws grammar edition dialect = record {
   fit = λ f commutes d argument.
       ap (λ (r : Rules). fit_of grammar r (map_spans f argument)) (rules_there laws grammar edition f d)
       ∙ fit_there laws grammar edition f commutes (rules_in edition d) argument;
+  put_out = λ f commutes d argument.
+      ap (λ (r : Rules). counted.put_out is_name grammar made r.list FnLike (map_spans f argument)) (rules_there laws grammar edition f d)
+      ∙ laws.put_out f is_name grammar made commutes (rules_in edition d).list FnLike argument;
   bursts = λ f commutes d argument.
       ap (λ (r : Rules). made_by.bursts is_name grammar made r.list FnLike (map_spans f argument)) (rules_there laws grammar edition f d)
       ∙ laws.bursts f is_name grammar made commutes (rules_in edition d).list FnLike argument;
@@ -89,6 +96,6 @@ expansion_there laws grammar edition dialect f commutes scope depth outer g =
     ap (λ (a : Scoped Definition). a.outcome)
     (sym (top_level w (λ d. d) moved depth Top (option_map f outer) (map_spans f g))
     ∙ scoped-with f (definition_with f) dialects.top_level w w
-    (record { broken = no_place.broken f; fit = no_place.fit f commutes; bursts = no_place.bursts f commutes })
+    (record { broken = no_place.broken f; fit = no_place.fit f commutes; put_out = no_place.put_out f commutes; bursts = no_place.bursts f commutes })
     (λ d. d) (λ d. d) (λ d. refl) scope moved (λ name. refl) depth (without_locals Top outer) g
     ∙ ap (scoped_with f (definition_with f)) (top_level w (λ d. d) scope depth Top outer g))

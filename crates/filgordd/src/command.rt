@@ -103,7 +103,7 @@ fn most_tokens<'a>(alloc: Global) -> Arg<'a>
         .value_name("N")
         .value_parser(value_parser!(u64))
         .default_value("1048576")
-        .help("How many tokens their results may have together")
+        .help("How many tokens rules may put out for one call of the text")
 }
 
 fn diagnostics<'a>(alloc: Global) -> Arg<'a>

@@ -14,6 +14,6 @@ pub struct SessionOptions {
     pub depth: u8,
     /// How many calls may be expanded for one call of the text. 0 for no limit.
     pub calls: usize,
-    /// How many tokens their results may have together. 0 for no limit.
+    /// How many tokens rules may put out for it. 0 for no limit.
     pub tokens: usize,
 }

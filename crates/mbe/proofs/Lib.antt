@@ -2,6 +2,7 @@ mod Rows
 pub mod FitLemmas
 pub mod OutputLemmas
 pub mod FailureTaskLemmas
+mod LeftLemmas
 pub mod FirstFitLemmas
 pub mod KeyLemmas
 pub mod MacroLemmas

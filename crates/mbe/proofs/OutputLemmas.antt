@@ -16,6 +16,7 @@ use Rattle.mbe_rules.specs.declared.parser.RepeatKind.TheVariants.{ZeroOrMore, O
 use Rattle.mbe_rules.proofs.ParsingLemmas.{macro_rules_of-map, macro_of-map}
 use Rattle.mbe_matcher.specs.Bindings.{Map, bindings}
 use Rattle.mbe.specs.Bursts.{bursts, rule_bursts, template_bursts, unless_fit}
+use Rattle.mbe.specs.PutOut.{if_unfit, put_out, rule_output, template_output}
 use Rattle.mbe_transcriber.specs.Filling.{filled_in, item_in, round_stands, rounds_of, separator_leaves}
 use Rattle.mbe.specs.Fit.{same_style, styled_fit}
 use Rattle.mbe_transcriber.specs.Limits.{most_rounds}
@@ -142,6 +143,35 @@ module _ (f : Span → Span) where
         ∙ ap (λ b. rule_bursts is_identifier grammar mark style r argument || b)
         (ap (λ o. unless_fit o later') (styled_fit-map f is_identifier grammar mark commutes style r argument)
         ∙ unless_fit-map fit_here later' ∙ ap (unless_fit fit_here) (bursts-map rs style argument))
+
+    template_output-map : (r : Rule) (o : Option (List Move)) →
+        template_output is_identifier grammar mark (rule_with f r) (option_map (map (move_with f)) o) ≡ template_output is_identifier grammar mark r o
+    template_output-map r None = refl
+    template_output-map r (Some ms) =
+        ap (λ m. output is_identifier most_rounds mark m (items_with f r.template)) (bindings-map f ms)
+        ∙ output-map is_identifier most_rounds mark commutes (bindings ms) r.template
+
+    rule_output-map : (style : MacroCallStyle) (r : Rule) (argument : Forest) →
+        rule_output is_identifier grammar mark style (rule_with f r) (map_spans f argument) ≡ rule_output is_identifier grammar mark style r argument
+    rule_output-map style r argument =
+        by_test (λ (n : ℕ). n) (same_style style r.style) (same_style style r.style) _ 0 _ 0 refl
+        (ap (template_output is_identifier grammar mark (rule_with f r)) (the_reading-map f grammar r.pattern argument)
+        ∙ template_output-map r (the_reading grammar r.pattern argument)) refl
+
+    if_unfit-map : (o : Option Forest) (later : ℕ) → if_unfit (option_map (map_spans f) o) later ≡ if_unfit o later
+    if_unfit-map None later = refl
+    if_unfit-map (Some g) later = refl
+
+    pub put_out-map : (rules : List Rule) (style : MacroCallStyle) (argument : Forest) →
+        put_out is_identifier grammar mark (map (rule_with f) rules) style (map_spans f argument) ≡ put_out is_identifier grammar mark rules style argument
+    put_out-map [] style argument = refl
+    put_out-map (r ∷ rs) style argument =
+        let later' : ℕ = put_out is_identifier grammar mark (map (rule_with f) rs) style (map_spans f argument) in
+        let fit_here : Option Forest = styled_fit is_identifier grammar mark style r argument in
+        ap (λ n. n + if_unfit (styled_fit is_identifier grammar mark style (rule_with f r) (map_spans f argument)) later') (rule_output-map style r argument)
+        ∙ ap (λ n. rule_output is_identifier grammar mark style r argument + n)
+        (ap (λ o. if_unfit o later') (styled_fit-map f is_identifier grammar mark commutes style r argument)
+        ∙ if_unfit-map fit_here later' ∙ ap (if_unfit fit_here) (put_out-map rs style argument))
 
     module _ (edition : SyntaxContext → Edition) (keeps : (s : Span) → edition (f s).ctx ≡ edition s.ctx) where
       pub macro_rules_bursts-map : (body : Forest) (style : MacroCallStyle) (argument : Forest) →

@@ -4,9 +4,10 @@ pub mod NoReading
 pub mod Kept
 pub mod Macros
 pub mod MacroEquality
--- the result of a call, and when it has too much output
+-- the result of a call, how many tokens rules put out for it, and when these are too many
 pub mod Answers
 pub mod Unfit
+pub mod PutOut
 pub mod Bursts
 -- the definitions of the crates below that these use
 pub use Rattle.mbe_matcher.specs.Grammar

@@ -7,6 +7,7 @@ ghost use Rattle.mbe.specs.Fit as spec;
 ghost use Rattle.mbe.specs.Macros.{rules_of};
 ghost use Rattle.mbe_transcriber.specs.Markers.{IsMarkedBy, is_name};
 ghost use Rattle.mbe.specs.Bursts.{bursts};
+ghost use Rattle.mbe.specs.PutOut.{left_of, put_out};
 ghost use Rattle.mbe_transcriber.specs.Room.{IsWantOfRoom};
 ghost use Rattle.mbe.specs.Unfit.{IsUnfit};
 ghost use Rattle.tt_data.specs.declared.span.Span.{Span};
@@ -14,7 +15,7 @@ ghost use Rattle.tt_data.specs.fault.TtFault.TheVariants.{Memory, Tokens};
 
 use crate::declarative_macro::DeclarativeMacro;
 use crate::recovery::failure;
-use crate::select_rule::first_fit;
+use crate::select_rule::{Bounds, Tried, first_fit};
 use fragment_grammar::FragmentGrammar;
 use mbe_rules::{ExpandResult, MacroCallStyle, MatchedArmIndex, ValueResult};
 use std::alloc::Global;
@@ -53,19 +54,59 @@ impl DeclarativeMacro {
             bursts is_name (G.answer grammar.now) mark (rules_of self.now).list call_style
             (forest argument.entry) ≡ true }
     {
-        match first_fit(
-            alloc,
-            grammar,
-            self.list(),
-            self.keys(),
-            call_style,
-            argument,
-            marker,
-            top,
-        )? {
-            Some((number, tree)) => Ok(Some((number as u32, tree))),
+        let bounds = Bounds { top, most: None };
+        match self.fit_within(alloc, grammar, argument, marker, call_style, bounds)? {
+            Some(tried) => Ok(tried.given),
+            // No limit is passed where there is none.
             None => Ok(None),
         }
+    }
+
+    /// The same within a limit: what the call gives, and what is left of the tokens that may be
+    /// put out for it. `None` exactly where the rules up to the first that fits put out more, be
+    /// it before a fault. Transcribing ends soon after the limit is passed.
+    ///
+    /// # Errors
+    ///
+    /// As `fit`.
+    pub fn fit_within<G: FragmentGrammar, M: Fn(Span) -> Span>(
+        &self,
+        alloc: Global,
+        grammar: &G,
+        argument: TokenTreesView<'_>,
+        marker: &M,
+        call_style: MacroCallStyle,
+        bounds: Bounds,
+    ) -> Result<Option<Tried<(u32, TopSubtree)>>, TtFault>
+        requires whole { (rules_of self.now).err ≡ None }
+        requires marker { M.IsAlwaysCallable marker.now }
+        ensures fit { (mark : Span → Span) → IsMarkedBy (M.post marker.now) mark →
+            IfOk result (λ o. IfSome o (λ t. t.given
+            ≡ option_map (λ r. (r.0, within bounds.top r.1)) (spec.fit is_name
+            (G.answer grammar.now) mark (rules_of self.now).list call_style
+            (forest argument.entry)))) }
+        ensures left { (mark : Span → Span) → IsMarkedBy (M.post marker.now) mark →
+            IfOk result (λ o. option_map (λ t. t.left) o ≡ left_of bounds.most (put_out is_name
+            (G.answer grammar.now) mark (rules_of self.now).list call_style
+            (forest argument.entry))) }
+        ensures faults { IfErr result IsWantOfRoom }
+        ensures tokens { (mark : Span → Span) → IsMarkedBy (M.post marker.now) mark → result
+            ≡ Err Tokens →
+            bursts is_name (G.answer grammar.now) mark (rules_of self.now).list call_style
+            (forest argument.entry) ≡ true }
+    {
+        let (list, keys) = (self.list(), self.keys());
+        let tried = first_fit(
+            alloc, grammar, list, keys, call_style, argument, marker, bounds,
+        )?;
+        let Some(Tried { given, left }) = tried else {
+            return Ok(None);
+        };
+        let given = match given {
+            Some((number, tree)) => Some((number as u32, tree)),
+            None => None,
+        };
+        Ok(Some(Tried { given, left }))
     }
 
     /// Expands a call. (The Rust Reference, "Macros By Example".)

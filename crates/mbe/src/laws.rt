@@ -12,6 +12,7 @@ ghost use Rattle.mbe_rules.specs.Relabelling.{rule_with};
 ghost use Rattle.mbe_rules.specs.declared.macro_call_style.MacroCallStyle.{MacroCallStyle};
 ghost use Rattle.mbe.specs.Bursts.{bursts};
 ghost use Rattle.mbe.specs.Fit.{fit, fit_with};
+ghost use Rattle.mbe.specs.PutOut as tokens;
 ghost use Rattle.mbe.specs.NoReading.{HasClashing, HasTwo, UsesUp};
 ghost use Rattle.mbe_matcher.specs.Grammar.{Grammar};
 ghost use Rattle.mbe_matcher.specs.Paths.{IsPath, has_clash};
@@ -75,6 +76,13 @@ pub fn bursts_at_other_places()
         bursts is_identifier grammar mark (macro_of edition (option_map (map_spans f) arguments)
         (map_spans f body)).list style (map_spans f argument)
         ≡ bursts is_identifier grammar mark (macro_of edition arguments body).list style argument }
+    ensures put_out { (f : Span → Span) (is_identifier : List ℕ → Bool) (grammar : Grammar)
+        (mark : Span → Span) →
+        ((s : Span) → f (mark s) ≡ mark (f s)) → (list : List Rule) (style : MacroCallStyle)
+        (argument : Forest) →
+        tokens.put_out is_identifier grammar mark (map (rule_with f) list) style
+        (map_spans f argument)
+        ≡ tokens.put_out is_identifier grammar mark list style argument }
 {}
 
 /// The reading by a matcher is a list of valid moves that uses up the argument, and no other list

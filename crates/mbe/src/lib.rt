@@ -19,5 +19,5 @@ pub use mbe_rules::{
     CountError, ExpandError, ExpandErrorKind, ExpandResult, MacroCallStyle, MacroCallStyles,
     MatchedArmIndex, ParseError, ValueResult,
 };
-pub use select_rule::rule_result;
+pub use select_rule::{Bounds, Tried, rule_result};
 pub use tt::{Delimiter, DelimiterKind, Punct};

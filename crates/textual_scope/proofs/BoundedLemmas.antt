@@ -1,6 +1,6 @@
 -- Expansions by limits: what they depend on, and at other spans.
 use Rattle.std.proofs.Common.{◌≡◌, ℕ, zero, suc, ◌-◌, Bool, true, false, List, [], ◌∷◌, ◌++◌, map, Option, Some, None, refl, sym, ap, subst, ◌∙◌, option_map, if◌then◌else◌}
-use Rattle.std.specs.Prelude.{All, ◌||◌, nat_eq, nat_lt}
+use Rattle.std.specs.Prelude.{All, ◌||◌, nat_lt}
 use Rattle.std.proofs.lemmas.List.Elements.{All-nil, All-cons, All-head, All-tail}
 use Rattle.tt_data.specs.Forest.{Forest, map_spans, size}
 use Rattle.tt_data.proofs.ForestLemmas.{size-map_spans}
@@ -12,7 +12,7 @@ use Rattle.expander_model.specs.OtherPlaces.{definition_with}
 use Rattle.expander_model.specs.declared.dialect.Dialect.{Dialect}
 use Rattle.expander_model.specs.declared.fault.FaultKind.TheVariants.{TooLarge}
 use Rattle.expander_model.specs.Scoping.{Around, Scoped, Search, Attempt, Expander, attempt, only, scoped, search_list}
-use Rattle.expander_model.specs.Limits.{Passed, passed_at_once, found_before, burst_before, size_note, Noted, definition, result, burst, Notes, note_of, noting, noted_world, noted_fit, noted_bursts, looked_in, until_passed, within, noted_list, plain_attempt, noted_attempt, noted, too_large, limited, bounded, outermost}
+use Rattle.expander_model.specs.Limits.{Passed, passed_at_once, found_before, burst_before, Noted, definition, tried, burst, Notes, note_of, calls_of, noting, noted_world, noted_fit, noted_put_out, noted_bursts, looked_in, until_passed, within, noted_list, plain_attempt, noted_attempt, noted, too_large, limited, bounded, outermost}
 use Rattle.expander_model.specs.declared.limits.Limits.{Limits}
 use Rattle.textual_scope.specs.ScopeChanges.{around_with, scoped_with}
 use Rattle.textual_scope.proofs.AgreementLemmas.{AgreeFrom, AgreeIn, agree_attempt, agree_list, agree_scoped}
@@ -42,10 +42,10 @@ module _ {D : Type 0} where
       → until_passed calls tokens notes ≡ Some p → All P (looked_in notes) → All P p.finds
   until_among P calls tokens [] p e all = absurd (cc e)
   until_among P calls tokens ((key, Some burst) ∷ notes) p e all = behind_burst P (until_passed calls tokens notes) p e (λ q is. until_among P calls tokens notes q is all)
-  until_among P calls tokens ((key, Some (result n)) ∷ notes) p e all =
-      go (nat_eq calls 0 || nat_lt tokens n) e (λ later. until_among P (calls - 1) (tokens - n) notes p later all)
+  until_among P calls tokens ((key, Some (tried c n)) ∷ notes) p e all =
+      go (nat_lt calls c || nat_lt tokens n) e (λ later. until_among P (calls - c) (tokens - n) notes p later all)
     where
-      go : (b : Bool) → (if b then Some passed_at_once else until_passed (calls - 1) (tokens - n) notes) ≡ Some p → (until_passed (calls - 1) (tokens - n) notes ≡ Some p → All P p.finds) → All P p.finds
+      go : (b : Bool) → (if b then Some passed_at_once else until_passed (calls - c) (tokens - n) notes) ≡ Some p → (until_passed (calls - c) (tokens - n) notes ≡ Some p → All P p.finds) → All P p.finds
       go true e more = let is : passed_at_once ≡ p = cc in subst (λ (v : Passed D). All P v.finds) is (All-nil P)
       go false e more = more e
   until_among P calls tokens ((key, Some (definition d)) ∷ notes) p e all =
@@ -59,7 +59,7 @@ module _ {D : Type 0} where
   all_agree : (others : List ℕ → Option D) (notes : Notes D) → All (λ find. others find.0 ≡ find.1) (looked_in notes) → AllAgree others notes
   all_agree others [] all = tt
   all_agree others ((key, Some burst) ∷ notes) all = (tt, all_agree others notes all)
-  all_agree others ((key, Some (result n)) ∷ notes) all = (tt, all_agree others notes all)
+  all_agree others ((key, Some (tried c n)) ∷ notes) all = (tt, all_agree others notes all)
   all_agree others ((key, Some (definition d)) ∷ notes) all =
       (All-head (λ find. others find.0 ≡ find.1) (key, Some d) (looked_in notes) all, all_agree others notes (All-tail (λ find. others find.0 ≡ find.1) (key, Some d) (looked_in notes) all))
   all_agree others ((key, None) ∷ notes) all =
@@ -134,16 +134,14 @@ module _ {D E : Type 0} (f : Span → Span) (h : D → E) where
   -- what is noted, with h applied to definitions
   abbrev note_with : Noted D → Noted E
   note_with (definition d) = definition (h d)
-  note_with (result n) = result n
+  note_with (tried c n) = tried c n
   note_with burst = burst
 
-  size_note-with : (r : Option Forest) → size_note (option_map (map_spans f) r) ≡ map (find_with note_with) (size_note r)
-  size_note-with None = refl
-  size_note-with (Some g) = ap (λ n. ([], Some (result n)) ∷ []) (size-map_spans f g)
-
-  note_of-with : (b : Bool) (r : Option Forest) → note_of b (option_map (map_spans f) r) ≡ map (find_with note_with) (note_of b r)
-  note_of-with true r = ap (λ xs. ([], Some burst) ∷ xs) (size_note-with r)
-  note_of-with false r = size_note-with r
+  note_of-with : (b : Bool) (r : Option Forest) (n : ℕ) → note_of b (option_map (map_spans f) r) n ≡ map (find_with note_with) (note_of b r n)
+  note_of-with true None n = refl
+  note_of-with true (Some g) n = refl
+  note_of-with false None n = refl
+  note_of-with false (Some g) n = refl
 
   noting-with : (notes : Notes D) (a : Scoped (Noted D)) → noting (map (find_with note_with) notes) (scoped_with f note_with a) ≡ scoped_with f note_with (noting notes a)
   noting-with notes a =
@@ -164,11 +162,11 @@ module _ {D E : Type 0} (f : Span → Span) (h : D → E) where
       go : (o : Option (Passed D)) → option_map burst_before (option_map passed_with o) ≡ option_map passed_with (option_map burst_before o)
       go None = refl
       go (Some p) = refl
-  passed-with calls tokens ((key, Some (result n)) ∷ notes) =
-      elim (nat_eq calls 0 || nat_lt tokens n) as
-      (λ b. (if b then Some passed_at_once else until_passed (calls - 1) (tokens - n) (map (find_with note_with) notes))
-      ≡ option_map passed_with (if b then Some passed_at_once else until_passed (calls - 1) (tokens - n) notes))
-      [ true ↦ refl | false ↦ passed-with (calls - 1) (tokens - n) notes ]
+  passed-with calls tokens ((key, Some (tried c n)) ∷ notes) =
+      elim (nat_lt calls c || nat_lt tokens n) as
+      (λ b. (if b then Some passed_at_once else until_passed (calls - c) (tokens - n) (map (find_with note_with) notes))
+      ≡ option_map passed_with (if b then Some passed_at_once else until_passed (calls - c) (tokens - n) notes))
+      [ true ↦ refl | false ↦ passed-with (calls - c) (tokens - n) notes ]
   passed-with calls tokens ((key, Some (definition d)) ∷ notes) = ap (option_map (found_before (key, Some (h d)))) (passed-with calls tokens notes) ∙ go (until_passed calls tokens notes)
     where
       go : (o : Option (Passed D)) → option_map (found_before (key, Some (h d))) (option_map passed_with o) ≡ option_map passed_with (option_map (found_before (key, Some d)) o)
@@ -191,9 +189,10 @@ module _ {D E : Type 0} (f : Span → Span) (h : D → E) where
       (scope : List ℕ → Option D) (changed : List ℕ → Option E) (finds : ScopeChange h scope changed) where
     noted_changes : Changes f note_with (noted_world w) (noted_world v)
     noted_changes = record {
-      broken = λ x. elim x as (λ x. (noted_world v).broken (note_with x) ≡ (noted_world w).broken x) [ definition d ↦ c.broken d | result n ↦ refl | burst ↦ refl ];
-      fit = λ x a. elim x as (λ x. noted_fit v (note_with x) (map_spans f a) ≡ option_map (map_spans f) (noted_fit w x a)) [ definition d ↦ c.fit d a | result n ↦ refl | burst ↦ refl ];
-      bursts = λ x a. elim x as (λ x. noted_bursts v (note_with x) (map_spans f a) ≡ noted_bursts w x a) [ definition d ↦ c.bursts d a | result n ↦ refl | burst ↦ refl ];
+      broken = λ x. elim x as (λ x. (noted_world v).broken (note_with x) ≡ (noted_world w).broken x) [ definition d ↦ c.broken d | tried k n ↦ refl | burst ↦ refl ];
+      fit = λ x a. elim x as (λ x. noted_fit v (note_with x) (map_spans f a) ≡ option_map (map_spans f) (noted_fit w x a)) [ definition d ↦ c.fit d a | tried k n ↦ refl | burst ↦ refl ];
+      put_out = λ x a. elim x as (λ x. noted_put_out v (note_with x) (map_spans f a) ≡ noted_put_out w x a) [ definition d ↦ c.put_out d a | tried k n ↦ refl | burst ↦ refl ];
+      bursts = λ x a. elim x as (λ x. noted_bursts v (note_with x) (map_spans f a) ≡ noted_bursts w x a) [ definition d ↦ c.bursts d a | tried k n ↦ refl | burst ↦ refl ];
     }
 
     noted_finds : ScopeChange note_with (λ key. option_map definition (scope key)) (λ key. option_map definition (changed key))
@@ -213,14 +212,17 @@ module _ {D E : Type 0} (f : Span → Span) (h : D → E) where
         let of : Notes E → Attempt (Noted E) → Attempt (Noted E) = λ notes x. record x { given = noting notes x.given } in
         let bursts : Bool = noted_bursts w d site.argument in
         let fits : Option Forest = noted_fit w d site.argument in
+        let n : ℕ = noted_put_out w d site.argument in
         let two_is : plain_attempt dialect v local' changed two (note_with d) (around_with f around) (site_with f site) ≡ attempt_with f note_with a =
         attempt-with f note_with dialect (noted_world w) (noted_world v) noted_changes (λ x. definition (local x)) (λ x. definition (local' x)) noted_made
         (λ key. option_map definition (scope key)) (λ key. option_map definition (changed key)) noted_finds one two same d around site in
-        ap (of (note_of (noted_bursts v (note_with d) (map_spans f site.argument)) (noted_fit v (note_with d) (map_spans f site.argument)))) two_is
-        ∙ ap (λ (b : Bool). of (note_of b (noted_fit v (note_with d) (map_spans f site.argument))) (attempt_with f note_with a)) (noted_changes.bursts d site.argument)
-        ∙ ap (λ r. of (note_of bursts r) (attempt_with f note_with a)) (noted_changes.fit d site.argument)
-        ∙ ap (λ notes. of notes (attempt_with f note_with a)) (note_of-with bursts fits)
-        ∙ ap (λ (x : Scoped (Noted E)). record { replaces = a.replaces; given = x }) (noting-with (note_of bursts fits) a.given)
+        let n' : ℕ = noted_put_out v (note_with d) (map_spans f site.argument) in
+        ap (of (note_of (noted_bursts v (note_with d) (map_spans f site.argument)) (noted_fit v (note_with d) (map_spans f site.argument)) n')) two_is
+        ∙ ap (λ (b : Bool). of (note_of b (noted_fit v (note_with d) (map_spans f site.argument)) n') (attempt_with f note_with a)) (noted_changes.bursts d site.argument)
+        ∙ ap (λ r. of (note_of bursts r n') (attempt_with f note_with a)) (noted_changes.fit d site.argument)
+        ∙ ap (λ k. of (note_of bursts (option_map (map_spans f) fits) k) (attempt_with f note_with a)) (noted_changes.put_out d site.argument)
+        ∙ ap (λ notes. of notes (attempt_with f note_with a)) (note_of-with bursts fits n)
+        ∙ ap (λ (x : Scoped (Noted E)). record { replaces = a.replaces; given = x }) (noting-with (note_of bursts fits n) a.given)
 
     noted-with : (n : ℕ) → SameWith f note_with (noted dialect w local scope n) (noted dialect v local' changed n)
     noted-with zero around g =

@@ -16,7 +16,7 @@ use Rattle.expander_model.specs.PieceStates.{after_call, after_group, after_leaf
 use Rattle.expander_model.specs.declared.begun.Begun.{Begun}
 use Rattle.expander_model.specs.declared.begun.Begun.TheVariants.{Nothing}
 use Rattle.expander_model.specs.declared.dialect.Dialect.{Dialect}
-use Rattle.expander_model.specs.Limits.{Noted, definition, result, burst, looked_in, unnoted, note_of, noting, noted_world, noted_list, plain_attempt, noted_attempt, noted}
+use Rattle.expander_model.specs.Limits.{Noted, definition, tried, burst, looked_in, unnoted, note_of, noting, noted_world, noted_list, plain_attempt, noted_attempt, noted}
 use Rattle.expander_model.specs.declared.scope_rules.Standing.TheVariants.{Argument}
 use Rattle.expander_model.specs.Scoping.{call_site, Around, Scoped, Search, Expander, Attempt, attempt, PieceKind, out_piece, definition_piece, plain_piece, kind_in, in_group, behind, only, and_next, in_brackets, is_left_out, defined, fitted, at_level, unbroken, looked_up, at_key, at_call, search_leaf, found_at, is_replaced, is_alone_in, takes_end, search_trees, search_piece, search_pieces, search_list, scoped}
 use Rattle.textual_scope.proofs.ResultLemmas.{same_next}
@@ -25,7 +25,7 @@ module _ {D : Type 0} where
   pub looked_in-append : (xs ys : List (List ℕ × Option (Noted D))) → looked_in (xs ++ ys) ≡ looked_in xs ++ looked_in ys
   looked_in-append [] ys = refl
   looked_in-append ((key, Some burst) ∷ xs) ys = looked_in-append xs ys
-  looked_in-append ((key, Some (result n)) ∷ xs) ys = looked_in-append xs ys
+  looked_in-append ((key, Some (tried c n)) ∷ xs) ys = looked_in-append xs ys
   looked_in-append ((key, Some (definition d)) ∷ xs) ys = ap (λ fs. (key, Some d) ∷ fs) (looked_in-append xs ys)
   looked_in-append ((key, None) ∷ xs) ys = ap (λ fs. (key, None) ∷ fs) (looked_in-append xs ys)
 
@@ -67,11 +67,11 @@ module _ {D : Type 0} where
   unnoted-found key (Some d) a b e = ap (λ (x : Scoped D). record x { outcome = found key (Some d) x.outcome }) e
 
   -- a note before a result
-  unnoted-noting : (b : Bool) (r : Option Forest) (a : Scoped (Noted D)) → unnoted (noting (note_of b r) a) ≡ unnoted a
-  unnoted-noting true None a = refl
-  unnoted-noting true (Some f) a = refl
-  unnoted-noting false None a = refl
-  unnoted-noting false (Some f) a = refl
+  unnoted-noting : (b : Bool) (r : Option Forest) (n : ℕ) (a : Scoped (Noted D)) → unnoted (noting (note_of b r n) a) ≡ unnoted a
+  unnoted-noting true None n a = refl
+  unnoted-noting true (Some f) n a = refl
+  unnoted-noting false None n a = refl
+  unnoted-noting false (Some f) n a = refl
 
   told : (b : Bool) (outer : Option Span) (place : Span) (steps : List Step) (ds : List Definition)
       → (let a : Scoped (Noted D) = record { outcome = if b then faulted BrokenDefinition place (just outer steps) else just outer steps; defines = ds } in unnoted a)
@@ -106,7 +106,7 @@ module _ {D : Type 0} (dialect : Dialect) (world : World D) (local : Definition 
   pub unnoted-tried : (one : Search (Noted D)) (two : Search D) → SameNoted one two → SameFrom (noted_attempt dialect world local scope one) (attempt dialect world local scope two)
   unnoted-tried one two same d around site =
       let a : Attempt (Noted D) = plain_attempt dialect world local scope one (definition d) around site in
-      ap (λ (x : Scoped D). record { replaces = a.replaces; given = x }) (unnoted-noting (world.bursts d site.argument) (world.fit d site.argument) a.given)
+      ap (λ (x : Scoped D). record { replaces = a.replaces; given = x }) (unnoted-noting (world.bursts d site.argument) (world.fit d site.argument) (world.put_out d site.argument) a.given)
       ∙ unnoted-attempt one two same d around site
 
   unnoted-level : (d : D) (one : Option (Expander (Noted D))) (two : Option (Expander D)) → SameDeeper one two → (around : Around) (site : CallSite)

@@ -1,6 +1,6 @@
 -- What a limit refuses depends on what was looked up until then alone.
 use Rattle.std.proofs.Common.{◌≡◌, ℕ, zero, suc, ◌-◌, Bool, true, false, List, [], ◌∷◌, ◌++◌, Option, Some, None, refl, sym, ap, subst, ◌∙◌, unwrap_or, option_map, if◌then◌else◌}
-use Rattle.std.specs.Prelude.{All, ◌&&◌, ◌||◌, not, nat_eq, nat_lt}
+use Rattle.std.specs.Prelude.{All, ◌&&◌, ◌||◌, not, nat_lt}
 use Rattle.std.proofs.lemmas.List.Elements.{All-head, All-tail}
 use Rattle.tt_data.specs.Forest.{Forest, size}
 use Rattle.tt_data.specs.Walk.{Step, walk}
@@ -17,7 +17,7 @@ use Rattle.expander_model.specs.PieceStates.{after_call, after_group, after_leaf
 use Rattle.expander_model.specs.declared.begun.Begun.{Begun}
 use Rattle.expander_model.specs.declared.begun.Begun.TheVariants.{Nothing}
 use Rattle.expander_model.specs.declared.dialect.Dialect.{Dialect}
-use Rattle.expander_model.specs.Limits.{Noted, definition, result, burst, note_of, noted_world, noted_fit, noted_bursts, noting, noted_list, plain_attempt, noted_attempt, noted, until_passed, too_large, Passed, passed_at_once, found_before, burst_before, size_note}
+use Rattle.expander_model.specs.Limits.{Noted, definition, tried, burst, note_of, calls_of, sized, noted_world, noted_fit, noted_put_out, noted_bursts, noting, noted_list, plain_attempt, noted_attempt, noted, until_passed, too_large, Passed, passed_at_once, found_before, burst_before}
 use Rattle.expander_model.specs.declared.limits.Limits.{Limits}
 use Rattle.expander_model.specs.declared.scope_rules.Standing.TheVariants.{Argument}
 use Rattle.expander_model.specs.Scoping.{call_site, Around, Scoped, Search, Expander, Attempt, PieceKind, out_piece, definition_piece, plain_piece, kind_in, in_group, behind, only, and_next, in_brackets, is_left_out, fitted, at_level, unbroken, looked_up, at_key, at_call, search_leaf, found_at, is_replaced, is_alone_in, takes_end, search_trees, search_piece, search_pieces}
@@ -29,9 +29,9 @@ module _ {D : Type 0} (others : List ℕ → Option D) where
   abbrev Note : Type 0
   Note = List ℕ × Option (Noted D)
 
-  -- a look-up of a note finds the same among others; a size agrees
+  -- a look-up of a note finds the same among others; a number agrees
   abbrev Agrees : Note → Type 0
-  Agrees (key, Some (result n)) = Unit {0}
+  Agrees (key, Some (tried c n)) = Unit {0}
   Agrees (key, Some burst) = Unit {0}
   Agrees (key, Some (definition d)) = others key ≡ Some d
   Agrees (key, None) = others key ≡ None
@@ -113,16 +113,15 @@ module _ {D : Type 0} (others : List ℕ → Option D) where
     same = λ k. ap (noting (([], Some burst) ∷ [])) (h.same k.1);
   }
 
-  both_size : (r : Option Forest) (a b : Scoped (Noted D)) → Both a b → Both (noting (size_note r) a) (noting (size_note r) b)
-  both_size None a b h = h
-  both_size (Some f) a b h = record {
+  both_sized : (c n : ℕ) (a b : Scoped (Noted D)) → Both a b → Both (noting (sized c n) a) (noting (sized c n) b)
+  both_sized c n a b h = record {
     follow = λ agrees. (b.outcome.finds, (refl, h.follow));
-    same = λ k. ap (noting (size_note (Some f))) (h.same k.1);
+    same = λ k. ap (noting (sized c n)) (h.same k.1);
   }
 
-  both_noting : (c : Bool) (r : Option Forest) (a b : Scoped (Noted D)) → Both a b → Both (noting (note_of c r) a) (noting (note_of c r) b)
-  both_noting true r a b h = both_burst (noting (size_note r) a) (noting (size_note r) b) (both_size r a b h)
-  both_noting false r a b h = both_size r a b h
+  both_noting : (c : Bool) (r : Option Forest) (n : ℕ) (a b : Scoped (Noted D)) → Both a b → Both (noting (note_of c r n) a) (noting (note_of c r n) b)
+  both_noting true r n a b h = both_burst (noting (sized (calls_of r) n) a) (noting (sized (calls_of r) n) b) (both_sized (calls_of r) n a b h)
+  both_noting false r n a b h = both_sized (calls_of r) n a b h
 
   pub passed_too : (a b : List Note) (calls tokens : ℕ) (p : Passed D) → Follow a b → until_passed calls tokens a ≡ Some p
       → All Same p.finds → until_passed calls tokens b ≡ Some p
@@ -131,14 +130,14 @@ module _ {D : Type 0} (others : List ℕ → Option D) where
       let next : (c : List Note) × ((b ≡ (key, Some burst) ∷ c) × Follow a c) = h tt in
       burst_first (until_passed calls tokens a) (until_passed calls tokens b) p
       (λ q is rest. ap (until_passed calls tokens) next.1.0 ∙ ap (option_map burst_before) (passed_too a next.0 calls tokens q next.1.1 is rest)) e all
-  passed_too ((key, Some (result n)) ∷ a) b calls tokens p h e all =
-      let next : (c : List Note) × ((b ≡ (key, Some (result n)) ∷ c) × Follow a c) = h tt in
+  passed_too ((key, Some (tried i n)) ∷ a) b calls tokens p h e all =
+      let next : (c : List Note) × ((b ≡ (key, Some (tried i n)) ∷ c) × Follow a c) = h tt in
       ap (until_passed calls tokens) next.1.0
-      ∙ go (nat_eq calls 0 || nat_lt tokens n) next.0 (λ k. passed_too a next.0 (calls - 1) (tokens - n) p next.1.1 k all) e
+      ∙ go (nat_lt calls i || nat_lt tokens n) next.0 (λ k. passed_too a next.0 (calls - i) (tokens - n) p next.1.1 k all) e
     where
-      go : (t : Bool) (c : List Note) → (until_passed (calls - 1) (tokens - n) a ≡ Some p → until_passed (calls - 1) (tokens - n) c ≡ Some p)
-          → (if t then Some passed_at_once else until_passed (calls - 1) (tokens - n) a) ≡ Some p
-          → (if t then Some passed_at_once else until_passed (calls - 1) (tokens - n) c) ≡ Some p
+      go : (t : Bool) (c : List Note) → (until_passed (calls - i) (tokens - n) a ≡ Some p → until_passed (calls - i) (tokens - n) c ≡ Some p)
+          → (if t then Some passed_at_once else until_passed (calls - i) (tokens - n) a) ≡ Some p
+          → (if t then Some passed_at_once else until_passed (calls - i) (tokens - n) c) ≡ Some p
       go true c more k = k
       go false c more k = more k
   passed_too ((key, Some (definition d)) ∷ a) b calls tokens p h e all =
@@ -204,7 +203,7 @@ module _ {D : Type 0} (dialect : Dialect) (world : World D) (local : Definition 
       let tried : BothTried (plain_attempt dialect world local scope one d around site) (plain_attempt dialect world local others two d around site) = both_attempt one two same d around site in
       record {
         replaces = λ k. refl;
-        given = both_noting others (noted_bursts world d site.argument) (noted_fit world d site.argument)
+        given = both_noting others (noted_bursts world d site.argument) (noted_fit world d site.argument) (noted_put_out world d site.argument)
             (plain_attempt dialect world local scope one d around site).given (plain_attempt dialect world local others two d around site).given tried.given;
       }
 

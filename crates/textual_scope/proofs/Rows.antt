@@ -2,7 +2,7 @@
 use Rattle.std.proofs.Common.{◌≡◌, ℕ, Bool, true, false, List, [], ◌∷◌, map, Some, None, refl, if◌then◌else◌}
 use Rattle.std.specs.Prelude.{codes, flat_map, Ok}
 use Prim.Native.String.{String}
-use Rattle.tt_data.specs.Forest.{Forest, empty, leaf, group, joined}
+use Rattle.tt_data.specs.Forest.{Forest, empty, leaf, group, joined, size}
 use Rattle.bridge.specs.Text.{is_punct}
 use Rattle.expander_model.specs.declared.fault.FaultKind.{FaultKind}
 use Rattle.expander_model.specs.declared.fault.FaultKind.TheVariants.{CannotExpand, BrokenDefinition, RecursionLimit}
@@ -49,6 +49,7 @@ abbrev pub toy : Dialect → World Definition
 toy dialect = record {
   broken = λ d. is_broken d.body;
   fit = λ d argument. if fits_none d.body then None else Some (filled argument d.body);
+  put_out = λ d argument. if fits_none d.body then 0 else size (filled argument d.body);
   bursts = λ d argument. false;
   dialect = dialect;
 }

@@ -10,6 +10,7 @@ returns-clause-taken c =
       macros = c.rules_at_other_places.ensures.macros;
       fits = c.fit_at_other_places.ensures.rules;
       bursts = c.bursts_at_other_places.ensures.rules;
+      put_out = c.bursts_at_other_places.ensures.put_out;
     } in
     let order : OrderLaws = record {
       walk_read = c.reading_is_a_relation.ensures.walk;
@@ -28,6 +29,7 @@ returns-clause-counted c =
       macros = c.rules_at_other_places.ensures.macros;
       fits = c.fit_at_other_places.ensures.rules;
       bursts = c.bursts_at_other_places.ensures.rules;
+      put_out = c.bursts_at_other_places.ensures.put_out;
     } in
     let order : OrderLaws = record {
       walk_read = c.reading_is_a_relation.ensures.walk;
@@ -46,6 +48,7 @@ returns-clause-held c =
       macros = c.rules_at_other_places.ensures.macros;
       fits = c.fit_at_other_places.ensures.rules;
       bursts = c.bursts_at_other_places.ensures.rules;
+      put_out = c.bursts_at_other_places.ensures.put_out;
     } in
     let order : OrderLaws = record {
       walk_read = c.reading_is_a_relation.ensures.walk;
@@ -64,6 +67,7 @@ returns-clause-looked c =
       macros = c.rules_at_other_places.ensures.macros;
       fits = c.fit_at_other_places.ensures.rules;
       bursts = c.bursts_at_other_places.ensures.rules;
+      put_out = c.bursts_at_other_places.ensures.put_out;
     } in
     let order : OrderLaws = record {
       walk_read = c.reading_is_a_relation.ensures.walk;

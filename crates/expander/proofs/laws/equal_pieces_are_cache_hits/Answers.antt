@@ -11,6 +11,7 @@ returns-clause-counted c =
       macros = c.rules_at_other_places.ensures.macros;
       fits = c.fit_at_other_places.ensures.rules;
       bursts = c.bursts_at_other_places.ensures.rules;
+      put_out = c.bursts_at_other_places.ensures.put_out;
     } in
     let order : OrderLaws = record {
       walk_read = c.reading_is_a_relation.ensures.walk;
@@ -29,6 +30,7 @@ returns-clause-replied c =
       macros = c.rules_at_other_places.ensures.macros;
       fits = c.fit_at_other_places.ensures.rules;
       bursts = c.bursts_at_other_places.ensures.rules;
+      put_out = c.bursts_at_other_places.ensures.put_out;
     } in
     let order : OrderLaws = record {
       walk_read = c.reading_is_a_relation.ensures.walk;

@@ -12,5 +12,6 @@ returns-clause-expansions c =
       macros = c.rules_at_other_places.ensures.macros;
       fits = c.fit_at_other_places.ensures.rules;
       bursts = c.bursts_at_other_places.ensures.rules;
+      put_out = c.bursts_at_other_places.ensures.put_out;
     } in
     expansion_there laws

@@ -10,6 +10,7 @@ returns c =
       macros = c.rules_at_other_places.ensures.macros;
       fits = c.fit_at_other_places.ensures.rules;
       bursts = c.bursts_at_other_places.ensures.rules;
+      put_out = c.bursts_at_other_places.ensures.put_out;
     } in
     let order : OrderLaws = record {
       walk_read = c.reading_is_a_relation.ensures.walk;

@@ -61,6 +61,7 @@ evaluate_piece-requires-clause-places g c =
       macros = c.rules_at_other_places.ensures.macros;
       fits = c.fit_at_other_places.ensures.rules;
       bursts = c.bursts_at_other_places.ensures.rules;
+      put_out = c.bursts_at_other_places.ensures.put_out;
     } in
     world_at_other_places laws (g.G.FragmentGrammar.answer c.args.context.now.grammar.now) c.loop-own.now.scope.edition c.args.context.now.dialect.now
 
@@ -90,6 +91,7 @@ loop-own-preserved g c =
       macros = c.rules_at_other_places.ensures.macros;
       fits = c.fit_at_other_places.ensures.rules;
       bursts = c.bursts_at_other_places.ensures.rules;
+      put_out = c.bursts_at_other_places.ensures.put_out;
     } in
     let next = next_own c.args.pieces.now c.loop-own.own-index c.own-item.result c.loop-own-test.true c.own-item.is in
     let one = left_length c.args.pieces.now c.loop-own.own-index c.own-item.result c.loop-own-test.true in
@@ -114,6 +116,7 @@ returns-in_err-evaluate_piece-clause-tokens g c = λ e.
       macros = c.rules_at_other_places.ensures.macros;
       fits = c.fit_at_other_places.ensures.rules;
       bursts = c.bursts_at_other_places.ensures.rules;
+      put_out = c.bursts_at_other_places.ensures.put_out;
     } in
     let next = next_own c.args.pieces.now c.loop-own.own-index c.own-item.result c.loop-own-test.true c.own-item.is in
     let left : Left A c.args.edition c.args.context.now.dialect.now c.args.context.now.depth c.args.context.now.memory.now c.args.context.now.prelude.now (map piece_at c.args.pieces.now) _ c.loop-own.now = rw next at c.loop-own.invariant.left in
