@@ -1,0 +1,8 @@
+-- lemmas by subject; the worked examples
+mod ListLemmas
+mod AroundLemmas
+mod AnswerLemmas
+mod MovedLemmas
+mod ScopeLemmas
+mod ExpansionLemmas
+mod TextLemmas
