@@ -24,6 +24,9 @@ use Rattle.call_expansion.proofs.ExpansionLemmas.{Agrees, scope_agrees}
 
 -- ---- one piece
 
+nothing_among : (steps : List PlacedStep) (faults : List (FaultKind × Span)) (calls : List CallPlace) → calls ≡ [] → None ≡ answer_among steps faults calls
+nothing_among steps faults calls e = ap (answer_among steps faults) (sym e)
+
 module _ (layers : Layers) (depth at : ℕ) (before : List Definition) (piece : Forest) where
   -- nothing is said in a definition
   pub in_definition : is_some (definition_of piece) ≡ true → None ≡ member_answer at (member layers depth before piece (definition_of piece))
@@ -38,7 +41,7 @@ module _ (layers : Layers) (depth at : ℕ) (before : List Definition) (piece : 
   without_calls calls none are = go (definition_of piece)
     where
       go : (o : Option Definition) → None ≡ member_answer at (member layers depth before piece o)
-      go None = ap (λ cs. answer_among _ _ cs) (sym none ∙ are)
+      go None = nothing_among _ _ (calls_around at piece) (sym are ∙ none)
       go (Some d) = refl
 
 plain_is : (o : Option Definition) → is_some o ≡ false → o ≡ None
