@@ -6,3 +6,4 @@ mod MovedLemmas
 mod ScopeLemmas
 mod ExpansionLemmas
 mod TextLemmas
+mod Rows
