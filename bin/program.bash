@@ -210,7 +210,7 @@ check_value() {
         --extern=?*@?*=?*) check_other "$2" && return ;;
         --grammar=rust | --grammar=small | --edition=2015 | --edition=2018 | --edition=2021 | --edition=2024) return ;;
         --scope=rust | --scope=top) return ;;
-        --diagnostics=all | --diagnostics=none) [ "${words[0]}" != lsp ] || return ;;
+        --diagnostics=all | --diagnostics=likely | --diagnostics=none) [ "${words[0]}" != lsp ] || return ;;
         --depth=*) [[ $2 =~ ^\+?0*([0-9]{1,3})$ ]] && [ "${BASH_REMATCH[1]}" -le 255 ] && return ;;
         --most-calls=* | --most-tokens=*) [[ $2 =~ ^\+?0*[0-9]{1,19}$ ]] && return ;;
     esac

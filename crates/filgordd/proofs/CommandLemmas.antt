@@ -8,8 +8,9 @@ use Rattle.clap.specs.Walk.{Row, Text, all_of, first_of, one_of, rows_of}
 use Rattle.clap.specs.declared.builder.value_parser.ValueParser.{ValueParser}
 use Rattle.clap.specs.declared.parser.matches.Found.{Found}
 use Rattle.filgordd.specs.Choices.{action_name}
-use Rattle.filgordd.specs.Commands.{AsksBy, AsksFor, HasOptions, IsFile, IsFlag, IsProgram, IsQuiet, IsTextSubcommand, diagnostics_rule, file_rule, in_crate, json_rule, layout_rule, option_rule, program_shape, with_more, with_others}
+use Rattle.filgordd.specs.Commands.{AsksBy, AsksFor, HasOptions, IsFile, IsFlag, IsProgram, IsTextSubcommand, NamesDiagnostics, diagnostics_rule, file_rule, in_crate, json_rule, layout_rule, option_rule, program_shape, with_more, with_others}
 use Rattle.filgordd.specs.declared.job.Action.{Action}
+use Rattle.filgordd.specs.declared.job.Diagnostics.{Diagnostics}
 use Rattle.filgordd.specs.declared.job.Job.{Job}
 
 -- the value that was got of an id is the first of its row
@@ -21,9 +22,9 @@ pub file_is : {B : Type 0} (now : B → Text) (f : Found) (id : Text) (got : Opt
     → IsFile (option_map now got) file → IsFile (first_of id (rows_of f)) file
 file_is now f id got file is h = subst (λ (word : Option Text). IsFile word file) (is ∙ first_value-rows f id) h
 
-pub quiet_is : {B : Type 0} (now : B → Text) (f : Found) (id : Text) (got : Option B) (quiet : Bool) → option_map now got ≡ first_value f id
-    → IsQuiet (option_map now got) quiet → IsQuiet (first_of id (rows_of f)) quiet
-quiet_is now f id got quiet is h = subst (λ (word : Option Text). IsQuiet word quiet) (is ∙ first_value-rows f id) h
+pub diagnostics_are : {B : Type 0} (now : B → Text) (f : Found) (id : Text) (got : Option B) (which : Diagnostics) → option_map now got ≡ first_value f id
+    → NamesDiagnostics (option_map now got) which → NamesDiagnostics (first_of id (rows_of f)) which
+diagnostics_are now f id got which is h = subst (λ (word : Option Text). NamesDiagnostics word which) (is ∙ first_value-rows f id) h
 
 -- what was got of an id, if anything, is the first of its row
 pub option_is : {B : Type 0} (now : B → Text) (f : Found) (id : Text) (got : Option B) → option_map now got ≡ first_value f id

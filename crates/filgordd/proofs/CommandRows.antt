@@ -124,6 +124,6 @@ module _ (grammar edition scope depth calls tokens diagnostics : ValueParser) wh
   one_crate = refl
 
   -- `filgordd lsp`
-  all_diagnostics : served (codes "filgordd" ∷ codes "lsp" ∷ []) ≡ Some (codes "lsp", (Some (codes "all"), None))
+  likely_diagnostics : served (codes "filgordd" ∷ codes "lsp" ∷ []) ≡ Some (codes "lsp", (Some (codes "likely"), None))
   unfolding clap_on_literals
-  all_diagnostics = refl
+  likely_diagnostics = refl

@@ -7,6 +7,8 @@ use Rattle.clap.specs.declared.builder.action.ArgAction.TheVariants.{Append, Set
 use Rattle.clap.specs.declared.builder.value_parser.ValueParser.{ValueParser}
 use Rattle.expander_run.specs.declared.options.Options.{Options}
 use Rattle.filgordd.specs.Choices.{Chosen, action_name}
+use Rattle.filgordd.specs.declared.job.Diagnostics.{Diagnostics}
+use Rattle.filgordd.specs.declared.job.Diagnostics.TheVariants.{All, Likely, Nothing}
 use Rattle.filgordd.specs.declared.job.Job.{Job}
 use Rattle.filgordd.specs.declared.request.Request.{Request}
 use Rattle.filgordd.specs.declared.request.Request.TheVariants.{Work}
@@ -130,9 +132,9 @@ pub record IsMacrosSubcommand (shape : Shape) : Type 0 where
   pub is_base : IsTextSubcommand (codes "macros") base
   pub shape_is : shape ≡ in_crate base
 
--- which diagnostics an editor is sent: all where the option is not used
+-- which diagnostics an editor is sent: the likely ones where the option is not used
 abbrev pub diagnostics_rule : ValueParser → Rule
-diagnostics_rule parser = option_rule (codes "diagnostics") (codes "all") parser
+diagnostics_rule parser = option_rule (codes "diagnostics") (codes "likely") parser
 
 -- `lsp`, which serves an editor: it takes no file, says which diagnostics go, and takes a crate
 pub record IsServerSubcommand (shape : Shape) : Type 0 where
@@ -183,10 +185,11 @@ pub record IsFlag (word : Option Text) (set : Bool) : Type 0 where
   pub off : word ≡ Some (codes "false") → set ≡ false
   pub on : word ≡ Some (codes "true") → set ≡ true
 
--- no diagnostics go where that is the word for them
-pub record IsQuiet (word : Option Text) (quiet : Bool) : Type 0 where
-  pub none : word ≡ Some (codes "none") → quiet ≡ true
-  pub other : word ≢ Some (codes "none") → quiet ≡ false
+-- which diagnostics a word stands for
+pub record NamesDiagnostics (word : Option Text) (which : Diagnostics) : Type 0 where
+  pub all : word ≡ Some (codes "all") → which ≡ All
+  pub none : word ≡ Some (codes "none") → which ≡ Nothing
+  pub other : word ≢ Some (codes "all") → word ≢ Some (codes "none") → which ≡ Likely
 
 -- what the values of a subcommand's options choose
 pub record ChosenBy (rows : List Row) (options : Options AnyGrammar) : Type 0 where
@@ -204,14 +207,14 @@ pub record ChosenBy (rows : List Row) (options : Options AnyGrammar) : Type 0 wh
   pub has_tokens : first_of (codes "most-tokens") rows ≡ Some tokens
   pub chosen : Chosen grammar edition scope depth calls tokens options
 
--- what they ask for: a job with these options, laid out or not, as JSON or not, with diagnostics or
--- without, and, each as its word names it, a folder of libraries, other files in order, options of
--- `cfg`, a text, all texts in order, other crates in order, and the root of a crate
+-- what they ask for: a job with these options, laid out or not, as JSON or not, with these
+-- diagnostics, and, each as its word names it, a folder of libraries, other files in order, options
+-- of `cfg`, a text, all texts in order, other crates in order, and the root of a crate
 pub record AsksBy (rows : List Row) (job : Job) : Type 0 where
   pub options : ChosenBy rows job.options
   pub has_layout : IsFlag (one_of (codes "layout") rows) job.layout
   pub has_json : IsFlag (one_of (codes "json") rows) job.json
-  pub has_quiet : IsQuiet (first_of (codes "diagnostics") rows) job.quiet
+  pub has_diagnostics : NamesDiagnostics (first_of (codes "diagnostics") rows) job.diagnostics
   pub has_library : first_of (codes "std") rows ≡ option_map (λ s. s.now) job.library
   pub has_with : unwrap_or (all_of (codes "with") rows) [] ≡ map (λ s. s.now) job.with.items
   pub has_cfg : unwrap_or (all_of (codes "cfg") rows) [] ≡ map (λ s. s.now) job.cfg.items

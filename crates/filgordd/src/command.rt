@@ -26,7 +26,7 @@ static EDITIONS: [&str; 4] = ["2015", "2018", "2021", "2024"];
 
 static SCOPES: [&str; 2] = ["rust", "top"];
 
-static DIAGNOSTICS: [&str; 2] = ["all", "none"];
+static DIAGNOSTICS: [&str; 3] = ["all", "likely", "none"];
 
 fn grammar<'a>(alloc: Global) -> Arg<'a>
     ensures rule { (p : ValueParser)
@@ -108,15 +108,15 @@ fn most_tokens<'a>(alloc: Global) -> Arg<'a>
 
 fn diagnostics<'a>(alloc: Global) -> Arg<'a>
     ensures rule { (p : ValueParser)
-        × (rule_of result ≡ option_rule (codes "diagnostics") (codes "all") p) }
+        × (rule_of result ≡ option_rule (codes "diagnostics") (codes "likely") p) }
     ensures own { result.global ≡ false }
 {
     Arg::new(alloc, "diagnostics")
         .long("diagnostics")
         .value_name("WHICH")
         .value_parser(DIAGNOSTICS.as_slice())
-        .default_value("all")
-        .help("Which diagnostics the editor is sent")
+        .default_value("likely")
+        .help("Which faults the editor is sent: likely ones are told of calls that rustc would expand")
 }
 
 fn library<'a>(alloc: Global) -> Arg<'a>

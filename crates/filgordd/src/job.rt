@@ -42,6 +42,17 @@ pub(crate) fn action_of(name: &str) -> Option<Action>
     }
 }
 
+/// Which faults an editor is sent.
+#[derive(Clone, Copy, PartialEq, Eq)]
+pub(crate) enum Diagnostics {
+    /// All, those too of calls that rustc may never expand.
+    All,
+    /// Those of calls that rustc would expand.
+    Likely,
+    /// None.
+    Nothing,
+}
+
 /// A text, what is done with it, by which grammar, edition, dialect and number of levels, and
 /// after which definitions of other texts.
 #[derive(Drop)]
@@ -52,8 +63,8 @@ pub(crate) struct Job<'a> {
     pub(crate) layout: bool,
     /// Whether the reply is told as JSON.
     pub(crate) json: bool,
-    /// Whether an editor is sent no diagnostics.
-    pub(crate) quiet: bool,
+    /// Which faults an editor is sent.
+    pub(crate) diagnostics: Diagnostics,
     /// The folder of the libraries whose definitions come first.
     pub(crate) library: Option<&'a str>,
     /// The words for the other files, in order.

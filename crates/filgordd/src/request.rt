@@ -1,10 +1,11 @@
 //! The words that the program is called with, read as a request.
 ghost use Rattle.std.specs.Prelude.{◌≡◌, IfOk, IfSome, List, [], codes, map, option_map, string_bytes, unwrap_or, ℕ};
 ghost use Rattle.clap.specs.Words.{all_of, found_of, rows_of, subcommand_rows_of};
-ghost use Rattle.filgordd.specs.Commands.{AsksBy, AsksFor, ChosenBy, IsAsked, IsFile, IsQuiet};
+ghost use Rattle.filgordd.specs.Commands.{AsksBy, AsksFor, ChosenBy, IsAsked, IsFile};
+ghost use Rattle.filgordd.specs.Commands.{NamesDiagnostics};
 
 use crate::command::program;
-use crate::job::{Action, Job, action_of, options_of};
+use crate::job::{Action, Diagnostics, Job, action_of, options_of};
 use any_grammar::AnyGrammar;
 use clap::error::ErrorKind;
 use clap::{ArgMatches, Error};
@@ -33,13 +34,14 @@ fn file_of(word: Option<&str>) -> Option<&str>
     }
 }
 
-// Whether a word says that no diagnostics go.
-fn is_quiet(word: Option<&str>) -> bool
-    ensures { IsQuiet (option_map (λ s. s.now) word.entry) result }
+// Which diagnostics a word stands for.
+fn diagnostics_of(word: Option<&str>) -> Diagnostics
+    ensures { NamesDiagnostics (option_map (λ s. s.now) word.entry) result }
 {
     match word {
-        Some("none") => true,
-        _ => false,
+        Some("all") => Diagnostics::All,
+        Some("none") => Diagnostics::Nothing,
+        _ => Diagnostics::Likely,
     }
 }
 
@@ -90,7 +92,7 @@ fn job_of<'a>(
         options,
         layout: matches.get_flag("layout"),
         json: matches.get_flag("json"),
-        quiet: is_quiet(matches.get_str("diagnostics")),
+        diagnostics: diagnostics_of(matches.get_str("diagnostics")),
         library: matches.get_str("std"),
         with: words_of(alloc, matches, "with")?,
         cfg: words_of(alloc, matches, "cfg")?,

@@ -2,7 +2,7 @@
 
 use crate::conditions::{cfg_of, under};
 use crate::crates::{set_of, walked};
-use crate::job::Job;
+use crate::job::{Diagnostics, Job};
 use crate::uri::path_of;
 use any_grammar::AnyGrammar;
 use cfg_options::CfgOptions;
@@ -22,11 +22,14 @@ enum Given {
     Crate(Whole),
 }
 
-// By what an editor's texts are expanded: these options, words for options of `cfg`, and files.
+// By what an editor's texts are expanded: a job's options, and files.
 #[derive(Drop)]
 struct Texts<'a> {
     options: &'a Options<AnyGrammar>,
+    // The words for options of `cfg`, each of which is one.
     cfg: &'a [&'a str],
+    // Whether faults are told that the dialect excuses.
+    tells_all: bool,
     disk: Disk<'a>,
     given: Given,
 }
@@ -37,7 +40,9 @@ impl Setup for Texts<'_> {
             (None, Given::Crate(_)) => Some(CfgOptions::new(alloc)),
             (cfg, _) => cfg,
         };
-        Ok(under(self.options, cfg))
+        let mut options = under(self.options, cfg);
+        options.dialect.excuses &= !self.tells_all;
+        Ok(options)
     }
 
     fn prelude(&self, alloc: Global, uri: &str) -> Result<Prelude, TtFault> {

@@ -1,6 +1,6 @@
 use Rattle.std.proofs.Common.{codes}
 use Rattle.clap.specs.Words.{found_of}
-use Rattle.filgordd.proofs.CommandLemmas.{file_is, flag_is, option_is, quiet_is}
+use Rattle.filgordd.proofs.CommandLemmas.{diagnostics_are, file_is, flag_is, option_is}
 use Rattle.filgordd.proofs.request.job_of.Goals as goal
 
 pub returns-clause-words : goal.returns-clause-words
@@ -12,7 +12,7 @@ returns-clause-words c = record {
   has_json =
       flag_is (found_of c.args.matches.now) (codes "json") c.get_flag-2.result c.get_flag-2.ensures.none
       c.get_flag-2.ensures.value c.get_flag-2.ensures.other;
-  has_quiet = quiet_is (λ s. s.now) (found_of c.args.matches.now) (codes "diagnostics") c.get_str.result _ c.get_str.ensures c.is_quiet.ensures;
+  has_diagnostics = diagnostics_are (λ s. s.now) (found_of c.args.matches.now) (codes "diagnostics") c.get_str.result _ c.get_str.ensures c.diagnostics_of.ensures;
   has_library = option_is (λ s. s.now) (found_of c.args.matches.now) (codes "std") c.get_str-2.result c.get_str-2.ensures;
   has_with = c.in_ok-words_of.ensures;
   has_cfg = c.in_ok-words_of-2.ensures;

@@ -1,0 +1,302 @@
+"""What `filgordd lsp` has to write for what it reads, as the crates lsp_server, client_texts and
+session_workspace define it. Faults are those that the same program's `expand --json` tells."""
+import json
+import subprocess
+
+import frames
+import texts
+
+NO_JSON = -32700, "no JSON"
+INVALID_REQUEST = -32600, "no request, or not wanted now"
+NOT_INITIALIZED = -32002, "not initialized"
+UNKNOWN_METHOD = -32601, "unknown method"
+INVALID_PARAMS = -32602, "parameters of another form, or no such document"
+# What the server's line on standard error says, by why it ends.
+NOT_SHUT = "the client did not ask to shut down"
+BAD_HEAD = "the head of a message says no length, or one above 256 MB"
+
+CAPABILITIES = {
+    "serverInfo": {"name": "filgordd", "version": "0.1.0"},
+    "capabilities": {
+        "positionEncoding": "utf-16",
+        "textDocumentSync": {"openClose": True, "change": 2},
+        "hoverProvider": True,
+        "definitionProvider": True,
+        "documentSymbolProvider": True,
+    },
+}
+REFUSALS = {
+    "out of memory": "Memory",
+    "too many tokens": "Tokens",
+    "too many definitions": "Numbers",
+}
+
+
+# ---- members of parameters; None where there is none of the wanted form
+
+
+def member(value, name):
+    return value.get(name) if isinstance(value, dict) else None
+
+
+def text_at(value, name):
+    found = member(value, name)
+    return found if isinstance(found, str) else None
+
+
+def number_at(value, name, least, most):
+    found = member(value, name)
+    is_number = isinstance(found, int) and not isinstance(found, bool)
+    return found if is_number and least <= found <= most else None
+
+
+def place_at(value, name):
+    place = member(value, name)
+    line, column = (number_at(place, it, 0, 2**64 - 1) for it in ("line", "character"))
+    return None if None in (line, column) else (line, column)
+
+
+def uri_of(params):
+    return text_at(member(params, "textDocument"), "uri")
+
+
+def version_of(params):
+    return number_at(member(params, "textDocument"), "version", -(2**63), 2**63 - 1)
+
+
+# A change: its two places, or None where it is a whole text, and the new text.
+def change_of(value):
+    new = text_at(value, "text")
+    if new is None or "range" not in value:
+        return new if new is None else (None, new)
+    places = place_at(value["range"], "start"), place_at(value["range"], "end")
+    return None if None in places else (places, new)
+
+
+def changes_in(params):
+    values = member(params, "contentChanges")
+    changes = [change_of(it) for it in values] if isinstance(values, list) else [None]
+    return None if None in changes else changes
+
+
+# ---- what is wrong with texts
+
+
+class Differ(Exception):
+    """The program tells of one place in two ways."""
+
+
+class Program:
+    """The program, with options for texts. It tells of each text once."""
+
+    def __init__(self, path, options=()):
+        self.path, self.options, self.replies = path, list(options), {}
+
+    # What `expand --json` tells of a text. A byte order mark and a `#!` line are code to a server,
+    # since an editor sends no file. A line in front keeps them from being taken for a file's.
+    def reply(self, text):
+        if text not in self.replies:
+            words = [self.path, "expand", "--json", *self.options]
+            ran = subprocess.run(words, input=f"\n{text}".encode(), capture_output=True)
+            self.replies[text] = json.loads(ran.stdout)
+        return self.replies[text]
+
+    def can_read(self, text):
+        return self.reply(text)["answer"] == "expansion"
+
+    def diagnostics(self, text):
+        reply = self.reply(text)
+        if reply["answer"] == "refused":
+            code, words = REFUSALS[reply["message"]], reply["message"]
+            return [diagnostic(texts.range_of(text, 0, 0), 1, code, words)]
+        if reply["answer"] == "unread":
+            return [diagnostic(fault_range(text, reply["at"]), 1, reply["kind"], reply["message"])]
+        shown = [it for it in reply["faults"] if it["kind"] != "NestedDefinition"]
+        return [
+            diagnostic(fault_range(text, it["at"]), 2, it["kind"], it["message"]) for it in shown
+        ]
+
+
+# Where a fault is in a text that was expanded behind a line feed: its bytes and its lines agree.
+def fault_range(text, at):
+    start, end = (texts.index_of_byte(text, max(byte - 1, 0)) for byte in at["bytes"])
+    found = texts.range_of(text, start, end)
+    for name, (line, column) in (("start", at["start"]), ("end", at["end"])):
+        if found[name] != {"line": line - 1, "character": column}:
+            raise Differ(f"the bytes and the lines of a fault: {at} in {text!r}")
+    return found
+
+
+def diagnostic(where, severity, code, words):
+    return {
+        "range": where,
+        "severity": severity,
+        "source": "filgordd",
+        "code": code,
+        "message": words,
+    }
+
+
+# ---- answers about a text
+
+
+def symbol(text, it):
+    return {
+        "name": it.name.name,
+        "detail": it.word,
+        "kind": 12,
+        "range": texts.range_of(text, it.piece[0].start, it.piece[-1].end),
+        "selectionRange": texts.range_of(text, it.name.start, it.name.end),
+    }
+
+
+def symbols(program, uri, text, place):
+    if not program.can_read(text):
+        return []
+    return [symbol(text, it) for it in texts.definitions(texts.trees_of(text))]
+
+
+def definition(program, uri, text, place):
+    if not program.can_read(text):
+        return None
+    trees = texts.trees_of(text)
+    call = texts.call_around(trees, texts.index_of(text, *place))
+    found = call and texts.definition_before(trees, call.start, call.name)
+    name = found and found.name
+    return name and {"uri": uri, "range": texts.range_of(text, name.start, name.end)}
+
+
+def nothing(program, uri, text, place):
+    return None
+
+
+SYMBOLS, DEFINITION = "textDocument/documentSymbol", "textDocument/definition"
+# Which answer each question gets: a new one has its function here.
+ANSWERS = {
+    SYMBOLS: symbols,
+    DEFINITION: definition,
+    "textDocument/hover": nothing,
+    "rust-analyzer/expandMacro": nothing,
+}
+
+
+# ---- the server
+
+
+def response(id, result):
+    return {"jsonrpc": "2.0", "id": id, "result": result}
+
+
+def failure(id, error):
+    return {"jsonrpc": "2.0", "id": id, "error": {"code": error[0], "message": error[1]}}
+
+
+def published(params):
+    return {"jsonrpc": "2.0", "method": "textDocument/publishDiagnostics", "params": params}
+
+
+class Server:
+    """A server: its phase is new, open, shut or ended; of each text it has the version too."""
+
+    def __init__(self, program, is_quiet=False):
+        self.program, self.is_quiet = program, is_quiet
+        self.phase, self.has_asked, self.documents = "new", False, {}
+
+    # The messages that go for a body.
+    def take(self, body):
+        try:
+            message = frames.read(body)
+        except frames.NoJson:
+            return [failure(None, NO_JSON)]
+        is_object = isinstance(message, dict)
+        if is_object and "method" in message and "id" in message:
+            return [self.answer(message["id"], text_at(message, "method"), message.get("params"))]
+        if is_object and "method" in message:
+            return self.take_note(text_at(message, "method"), message.get("params"))
+        return [] if is_object and "id" in message else [failure(None, INVALID_REQUEST)]
+
+    # With which error a request is refused.
+    def refused(self, method):
+        if self.phase == "new":
+            return None if method == "initialize" else NOT_INITIALIZED
+        if self.phase == "shut" or method in ("initialize", None):
+            return INVALID_REQUEST
+        return None if method in ANSWERS or method == "shutdown" else UNKNOWN_METHOD
+
+    def answer(self, id, method, params):
+        error = self.refused(method)
+        if error:
+            return failure(id, error)
+        if method == "initialize":
+            self.phase = "open"
+            return response(id, CAPABILITIES)
+        if method == "shutdown":
+            self.phase, self.has_asked = "shut", True
+            return response(id, None)
+        return self.answer_about(id, method, params)
+
+    def answer_about(self, id, method, params):
+        uri, place = uri_of(params), place_at(params, "position")
+        if uri not in self.documents or (place is None and method != SYMBOLS):
+            return failure(id, INVALID_PARAMS)
+        text, _version = self.documents[uri]
+        return response(id, ANSWERS[method](self.program, uri, text, place))
+
+    def take_note(self, method, params):
+        if method == "exit":
+            self.phase = "ended"
+        if self.phase != "open" or uri_of(params) is None:
+            return []
+        notes = {
+            "textDocument/didOpen": self.opened,
+            "textDocument/didChange": self.edited,
+            "textDocument/didClose": self.closed,
+        }
+        return notes[method](uri_of(params), version_of(params), params) if method in notes else []
+
+    def opened(self, uri, version, params):
+        text = text_at(params["textDocument"], "text")
+        return [] if None in (version, text) else self.publish(uri, version, text)
+
+    def edited(self, uri, version, params):
+        changes = changes_in(params)
+        if None in (version, changes) or uri not in self.documents:
+            return []
+        text, _version = self.documents[uri]
+        for places, new in changes:
+            text = texts.changed(text, places, new)
+        return self.publish(uri, version, text)
+
+    def closed(self, uri, _version, _params):
+        self.documents.pop(uri, None)
+        return [published({"uri": uri, "diagnostics": []})]
+
+    # A text becomes another, of which the client is told.
+    def publish(self, uri, version, text):
+        self.documents[uri] = text, version
+        if self.is_quiet:
+            return []
+        found = self.program.diagnostics(text)
+        return [published({"uri": uri, "version": version, "diagnostics": found})]
+
+
+class Run:
+    """A whole run over a stream: the messages that go for each body, the status, and why it ends."""
+
+    def __init__(self, server, stream):
+        self.server, self.turns, self.why = server, [], None
+        try:
+            self.serve(stream)
+        except frames.Broken:
+            self.why = BAD_HEAD
+        else:
+            self.why = None if server.has_asked else NOT_SHUT
+        self.status = 0 if self.why is None else 1
+
+    def serve(self, stream):
+        body, rest = frames.first_body(stream)
+        while body is not None:
+            self.turns.append((body, self.server.take(body)))
+            if self.server.phase == "ended":
+                return
+            body, rest = frames.first_body(rest)
