@@ -1,6 +1,7 @@
-;;; Edits a text in Emacs by eglot, beside a language server: 300 random edits, with line ends,
-;;; brackets and wide characters. Is run by `.ci/lsp`, which says by the environment where and what
-;;; the server is. At last the folder has `text`, the buffer's text.  -*- lexical-binding: t -*-
+;;; Edits a text in Emacs by eglot, beside a language server.  -*- lexical-binding: t -*-
+;;; These are 300 random edits, with line ends, brackets and wide characters. The last 100 leave
+;;; the text in order. Is run by `.ci/lsp`, which says by the environment where and what the server
+;;; is. At last the folder has `text`, the buffer's text.
 (require 'package)
 (package-initialize)
 (require 'eglot)
@@ -12,6 +13,11 @@
   ["x" "é" "e\u0301" "𝕏" "\n" "\n\n" "(" ")" "{ a }" "{" "}" "[" "]" "swap!(p q);" "swap!(1);"
    "/* ü 🦀 */" "// 𝕏\n" "'a" "\"s\"" "\"🦀\"" "/// é\n" ";\n"
    "macro_rules! 𝕏y { ($a:tt) => { $a } }\n" "𝕏y!(q);\n" "macro é($x:ident) { $x }\n"])
+
+(defvar lsp-whole
+  ["" " " "x" "é" "𝕏 " "\n" "{ a }" "swap!(p 𝕏);" "swap!(1);" "/* ü 🦀 */" " 'a " " \"🦀\""
+   "macro_rules! 𝕏y { ($a:tt) => { $a } }\n" "𝕏y!(q);\n" "𝕏y!();" "macro é($x:ident) { $x }\n"]
+  "What leaves a text in order, where it is put before a line or behind it.")
 
 (define-derived-mode lsp-mode prog-mode "lsp")
 (setq make-backup-files nil
@@ -31,6 +37,18 @@
       (goto-char start)
       (insert (aref lsp-bits (random (length lsp-bits)))))))
 
+(defun lsp-add ()
+  "Put a text before a line or behind it."
+  (goto-char (+ (point-min) (random (1+ (buffer-size)))))
+  (if (= 0 (random 2)) (beginning-of-line) (end-of-line))
+  (insert (aref lsp-whole (random (length lsp-whole)))))
+
+(defun lsp-edit-often (times change)
+  "CHANGE the text so many TIMES, and tell of it now and then."
+  (dotimes (_ times)
+    (funcall change)
+    (when (= 0 (random 4)) (lsp-tell))))
+
 (defun lsp-tell ()
   "Send the edits that were not sent yet, and wait until their diagnostics have come.
 Eglot 1.9 may loop for ever over those of an earlier text."
@@ -48,9 +66,11 @@ Eglot 1.9 may loop for ever over those of an earlier text."
   (add-to-list 'eglot-server-programs (cons 'lsp-mode lsp-command))
   (apply #'eglot (eglot--guess-contact))
   (lsp-tell)
-  (dotimes (i 300)
-    (lsp-edit)
-    (when (= 0 (random 4)) (lsp-tell)))
+  (let ((begun (buffer-string)))
+    (lsp-edit-often 200 #'lsp-edit)
+    (erase-buffer)
+    (insert begun))
+  (lsp-edit-often 100 #'lsp-add)
   (lsp-tell)
   (let ((coding-system-for-write 'utf-8-unix))
     (write-region nil nil (concat lsp-room "/text") nil 'silent))

@@ -54,9 +54,20 @@ def written(stream):
     return messages
 
 
-# The text of a value, which tells 1 from 1.0, and is one for all orders of the members.
-def canonical(value):
-    return json.dumps(value, sort_keys=True, ensure_ascii=False)
+# Whether two values are one: 1 is not 1.0, and members have no order. What is no JSON in the wanted
+# value decides by itself what is equal to it.
+def same(found, wanted):
+    if isinstance(wanted, dict) and isinstance(found, dict):
+        pairs = [(found[it], wanted[it]) for it in wanted if it in found]
+        return len(found) == len(wanted) == len(pairs) and all(same(*it) for it in pairs)
+    if isinstance(wanted, list) and isinstance(found, list):
+        return len(found) == len(wanted) and all(map(same, found, wanted))
+    is_scalar = wanted is None or isinstance(wanted, (str, int, float))
+    return wanted == found and (type(found) is type(wanted) or not is_scalar)
+
+
+def shown(value):
+    return json.dumps(value, sort_keys=True, ensure_ascii=False, default=repr)
 
 
 # An integer of more than 64 bits is a float, and so is -0. A float that is not finite is refused.

@@ -333,7 +333,7 @@ class Server:
 
 
 class Run:
-    """A whole run over a stream: the messages that go for each body, the status, and why it ends."""
+    """A run over a whole stream: what goes for each body, the status, and why it ends."""
 
     def __init__(self, server, stream):
         self.server, self.turns, self.why = server, [], None

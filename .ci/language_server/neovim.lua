@@ -1,7 +1,7 @@
 -- Edits a text in neovim, beside a language server: 300 random edits, with line ends, brackets and
--- wide characters. Is run by `.ci/lsp`, which says by the environment where and what the server is.
--- At last the folder has `text`, the buffer's text, and `said`, in which the server's answers about
--- the text are held against those about a copy of it.
+-- wide characters. The last 100 leave the text in order. Is run by `.ci/lsp`, which says by the
+-- environment where and what the server is. At last the folder has `text`, the buffer's text, and
+-- `said`: whether the server answers the same about the text and about a copy of it.
 local room, ends = vim.env.ROOM, vim.env.LINE_ENDS
 local command = vim.fn.json_decode(vim.env.COMMAND)
 local published = {}
@@ -64,6 +64,20 @@ local function replace()
   vim.api.nvim_buf_set_text(0, first, start, last, stop, new)
 end
 
+-- What leaves a text in order, where it is put before a line or behind it.
+local whole = {
+  "", " ", "x", "é", "𝕏 ", "\n", "{ a }", "swap!(p 𝕏);", "swap!(1);", "/* ü 🦀 */", " 'a ",
+  " \"🦀\"", "macro_rules! 𝕏y { ($a:tt) => { $a } }\n", "𝕏y!(q);\n", "𝕏y!();",
+  "macro é($x:ident) { $x }\n",
+}
+
+local function add()
+  local line = math.random(vim.api.nvim_buf_line_count(0)) - 1
+  local at = math.random(2) == 1 and 0 or #vim.api.nvim_buf_get_lines(0, line, line + 1, true)[1]
+  local new = vim.split(whole[math.random(#whole)], "\n", { plain = true })
+  vim.api.nvim_buf_set_text(0, line, at, line, at, new)
+end
+
 -- What a user does with keys.
 local keys = { "u", "u", "\18", "dd", "yyp", "J", "x", "~", "ddggP", "yyGp", ">>", "xp", "D" }
 
@@ -74,6 +88,16 @@ local function edit()
   local line = math.random(vim.api.nvim_buf_line_count(0))
   vim.api.nvim_win_set_cursor(0, { line, 0 })
   vim.cmd("silent! normal! " .. keys[math.random(#keys)])
+end
+
+-- Edits so many times, and gives the server time to answer now and then.
+local function edit_often(times, change)
+  for i = 1, times do
+    change()
+    if i % 7 == 0 then
+      vim.wait(math.random(3) == 1 and 170 or 5)
+    end
+  end
 end
 
 local function text()
@@ -108,12 +132,10 @@ local function main()
   vim.cmd("set hidden noswapfile undolevels=100 nofixendofline")
   math.randomseed(tonumber(vim.env.SEED))
   open("a.rs")
-  for i = 1, 300 do
-    edit()
-    if i % 7 == 0 then
-      vim.wait(math.random(3) == 1 and 170 or 5)
-    end
-  end
+  local begun = vim.api.nvim_buf_get_lines(0, 0, -1, true)
+  edit_often(200, edit)
+  vim.api.nvim_buf_set_lines(0, 0, -1, true, begun)
+  edit_often(100, add)
   local running = answers()
   write("text", text())
   write("b.rs", text())

@@ -1,5 +1,5 @@
-"""Texts as the server sees them: places by line and UTF-16 column, changes, and tokens, of which the
-definitions of macros and their calls are made. A place within a text is an index of characters."""
+"""Texts as the server sees them: places by line and UTF-16 column, changes, and tokens, of which
+the definitions of macros and their calls are made. An index counts characters."""
 import re
 
 LINE_END = re.compile(r"\r\n|\n|\r")
@@ -55,9 +55,8 @@ def changed(text, places, new):
 
 
 class Token:
-    """A token: `kind` is one of word, mark, doc, group and value; a group has `inner` tokens.
-
-    `name` is a word without its `r#`. An inner doc comment is a group behind `#` and `!`."""
+    """A token: `kind` is word, mark, value or group; a group has its first bracket as `text`, and
+    `inner` tokens. `name` is a word without its `r#`."""
 
     def __init__(self, kind, text, start, end, inner=None):
         self.kind, self.text, self.start, self.end, self.inner = kind, text, start, end, inner

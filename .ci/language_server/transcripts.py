@@ -17,6 +17,7 @@ WHOLE = [
     "/// of 𝕏 and é\r\n#[a] macro_rules! été (($x:expr) => { $x });\n",
     "pub(crate) macro 𝕏y($x:ident) { $x }\n",
     "macro e\u0301n { (a) => { b } }\n",
+    "macro_rules! r#try { ($a:ident) => { $a } } try!(x); r#try!(1);\n",
     "//! inner ü\r#![b]\n",
     "swap!(p q);\n",
     "swap!{ 𝕏 \"é\u0301\" }\r\n",
@@ -24,6 +25,7 @@ WHOLE = [
     "one!(1); one!(2); one!(z);\n",
     "fn f<'a>(x: &'a u8) { one!(q); swap!(x) }\n",
     "mod m { macro_rules! one { () => { 3 } } one!(); one!(1) }\n",
+    "fn g() { macro_rules! swap { ($a:ident) => { $a } } swap!(x); { swap!(1) } }\n",
     "again!();\n",
     "makes!(late); late!();\n",
     "été!(1 +); été![2];\n",
@@ -83,7 +85,7 @@ ODD = [
     b'{"id":' + b"[" * 126 + b"]" * 126 + b',"method":"x"}',
 ]
 IDS = [None, True, "", "a", "é𝕏\"\\\n", 0.5, -1.25, 1.0, 1e300, [1, {"b": 2}], {}, -3]
-UNKNOWN = ["x", "", "$/progress", "textDocument/didSave", "Initialize", "workspace/symbol", "exit"]
+UNKNOWN = ["x", "", "$/progress", "textDocument/didSave", "Initialize", "initialize", "exit"]
 QUIET = ["initialized", "$/cancelRequest", "$/setTrace", "x", "", "textDocument/hover", "shutdown"]
 # What is no position, or far from each text.
 FAR = [{"line": 9**9, "character": 0}, {"line": 0, "character": 2**64 - 1}]
@@ -138,7 +140,8 @@ class Client:
     # Definitions and calls of them, or anything.
     def new_text(self):
         begin = self.random.sample(WHOLE[:8], 6) if self.is_likely(60) else []
-        return "".join(begin + self.random.choices(WHOLE, k=self.random.randrange(12)))
+        more = self.random.choices(WHOLE, k=self.random.randrange(12))
+        return "".join([*begin, *more, self.pick(["", "x", "// 𝕏", "swap!(q)"])])
 
     def version(self):
         self.count += 1
@@ -146,8 +149,10 @@ class Client:
 
     # A place of a text: between lines or trees, or anywhere, or none in it.
     def place(self, text, near=None):
-        if self.is_likely(4):
-            return self.pick(FAR)
+        if self.is_likely(5):
+            return self.pick([*FAR, {"line": len(texts.line_starts(text)), "character": 0}])
+        if self.is_likely(5):
+            return self.place_in_pair(text)
         gaps = [it.end() for it in re.finditer(r"\A|[\r\n;}]|\b(?=\w+!)", text)]
         at = self.pick(gaps) if self.is_likely(60) else self.random.randint(0, len(text))
         if near is not None:
@@ -156,6 +161,12 @@ class Client:
         if self.is_likely(8):
             place["character"] += self.pick([1, 1, 5, 1000])
         return place
+
+    # The place within a surrogate pair, if the text has one.
+    def place_in_pair(self, text):
+        wide = [i for i, it in enumerate(text) if texts.units(it) == 2]
+        place = texts.place_of(text, self.pick(wide or [0]))
+        return {**place, "character": place["character"] + 1}
 
     def range(self, text):
         start = self.place(text)
@@ -172,6 +183,8 @@ class Client:
         if self.is_likely(50):
             value["rangeLength"] = self.random.randrange(9)
         places, new = model.change_of(value)
+        if self.is_likely(5):
+            value["text"] = new = "q" * (len(text) - len(texts.changed(text, places, "")))
         return value, texts.changed(text, places, new)
 
     # ---- what it tells
@@ -249,7 +262,7 @@ class Client:
             self.opening: 10,
             self.edit: 45,
             self.mending: 10,
-            self.closing: 3,
+            self.closing: 4,
             self.question: 25,
             self.symbols: 15,
             self.unknown: 3,

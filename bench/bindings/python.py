@@ -13,18 +13,9 @@ from pathlib import Path
 sys.dont_write_bytecode = True
 sys.path.insert(0, str(Path(__file__).resolve().parents[2] / "bindings" / "python"))
 from filgordd import Session  # noqa: E402
+from texts import text_of  # noqa: E402
 
 TURNS = 11
-MACROS = "macro_rules! p { ($a:ident $b:tt) => { $b $a } }\n"
-PIECES = "fn f{0}(a: u32, b: u32) -> u32 {{ (a + {0}) * b }}\np!{{ x{0} y }}\n"
-
-
-def text_of(size):
-    pieces, number = [MACROS], 0
-    while size > 0:
-        pieces.append(PIECES.format(number))
-        size, number = size - len(pieces[-1]), number + 1
-    return "".join(pieces)
 
 
 def library(session):
