@@ -198,6 +198,25 @@ class Name:
         return "a name"
 
 
+class Why:
+    """Why a call stays: in these words, or in those for a call whose fault may be excused."""
+
+    EXCUSED = "no definition of this macro is known here, or no rule of it fits"
+
+    def __init__(self, words):
+        self.words = words
+
+    def __eq__(self, other):
+        return other == self.words or (other == self.EXCUSED and self.words in WITHOUT_FAULT)
+
+    def __repr__(self):
+        return self.words
+
+
+# What `expand` says of a call that may have no fault.
+WITHOUT_FAULT = ("no definition of this macro is known here", "no rule matches this call")
+
+
 # What comes of the call at a place, laid out, or None, and why it stays, or None.
 def called(program, text, place):
     if not program.can_read(text):
@@ -212,7 +231,7 @@ def hover(program, uri, text, place):
     laid, why = called(program, text, place)
     if laid is None and why is None:
         return None
-    shown = why if laid is None else f"```rust\n{laid}\n```"
+    shown = Why(why) if laid is None else f"```rust\n{laid}\n```"
     around = Around(texts.place_of(text, texts.index_of(text, *place)))
     return {"contents": {"kind": "markdown", "value": shown}, "range": around}
 

@@ -55,11 +55,13 @@ ShowsExpansion _ data = data ≡ null
 abbrev pub code_block : List ℕ → List ℕ
 code_block laid = codes "```rust\n" ++ (laid ++ codes "\n```")
 
--- what is shown of a call: what came of it, or why it stays
+-- what is shown of a call: what came of it, or why it stays. A call without a fault has no
+-- definition, or its dialect excuses that no rule fits
 abbrev pub IsHoverText : Option Printed → List FaultKind → List ℕ → Type 0
 IsHoverText (Some p) faults shown =
     (laid : List ℕ) × IsLaidOut (string_bytes p.text) laid × (shown ≡ code_block laid)
-IsHoverText None [] shown = shown ≡ codes "no definition of this macro is known here"
+IsHoverText None [] shown =
+    shown ≡ codes "no definition of this macro is known here, or no rule of it fits"
 IsHoverText None (fault ∷ _) shown = shown ≡ fault_words fault
 
 -- that is shown for the bytes of the call

@@ -19,7 +19,7 @@ use serde_json::{Value, json};
 use std::alloc::{AllocError, Global};
 use tt_data::{TextRange, TtFault};
 
-const UNKNOWN: &str = "no definition of this macro is known here";
+const UNKNOWN: &str = "no definition of this macro is known here, or no rule of it fits";
 
 // What is found at a place of a session's text. `None` if that takes too many tokens.
 fn found_at(
