@@ -101,6 +101,14 @@ class Program:
             self.replies[text] = json.loads(ran.stdout)
         return self.replies[text]
 
+    # What `expand` prints of the call at a place alone, laid out, and what it says of it.
+    def call_at(self, text, at):
+        line, column = text[:at].count("\n") + 2, at - text[:at].rfind("\n")
+        words = [self.path, "expand", "--layout", *self.options, f"-:{line}:{column}"]
+        ran = subprocess.run(words, input=f"\n{text}".encode(), capture_output=True)
+        told = ran.stderr.decode().splitlines()
+        return ran.stdout.decode(), [it.split(": ", 1)[1] for it in told if it.startswith("line ")]
+
     def can_read(self, text):
         return self.reply(text)["answer"] == "expansion"
 
@@ -166,8 +174,71 @@ def definition(program, uri, text, place):
     return name and {"uri": uri, "range": texts.range_of(text, name.start, name.end)}
 
 
-def nothing(program, uri, text, place):
-    return None
+class Around:
+    """A range in which a place is."""
+
+    def __init__(self, place):
+        self.place = place
+
+    def __eq__(self, other):
+        places = [other["start"], self.place, other["end"]]
+        return places == sorted(places, key=lambda it: (it["line"], it["character"]))
+
+    def __repr__(self):
+        return f"a range around {self.place}"
+
+
+class Name:
+    """A name of a macro."""
+
+    def __eq__(self, other):
+        return isinstance(other, str) and other != ""
+
+    def __repr__(self):
+        return "a name"
+
+
+class Why:
+    """Why a call stays: in these words, or in those for a call whose fault may be excused."""
+
+    EXCUSED = "no definition of this macro is known here, or no rule of it fits"
+
+    def __init__(self, words):
+        self.words = words
+
+    def __eq__(self, other):
+        return other == self.words or (other == self.EXCUSED and self.words in WITHOUT_FAULT)
+
+    def __repr__(self):
+        return self.words
+
+
+# What `expand` says of a call that may have no fault.
+WITHOUT_FAULT = ("no definition of this macro is known here", "no rule matches this call")
+
+
+# What comes of the call at a place, laid out, or None, and why it stays, or None.
+def called(program, text, place):
+    if not program.can_read(text):
+        return None, None
+    laid, told = program.call_at(text, texts.index_of(text, *place))
+    if laid or not told:
+        return laid, None
+    return None, None if told[0] == "no call is here" else told[0]
+
+
+def hover(program, uri, text, place):
+    laid, why = called(program, text, place)
+    if laid is None and why is None:
+        return None
+    shown = Why(why) if laid is None else f"```rust\n{laid}\n```"
+    around = Around(texts.place_of(text, texts.index_of(text, *place)))
+    return {"contents": {"kind": "markdown", "value": shown}, "range": around}
+
+
+def expansion(program, uri, text, place):
+    laid, _why = called(program, text, place)
+    return None if laid is None else {"name": Name(), "expansion": laid}
 
 
 SYMBOLS, DEFINITION = "textDocument/documentSymbol", "textDocument/definition"
@@ -175,8 +246,8 @@ SYMBOLS, DEFINITION = "textDocument/documentSymbol", "textDocument/definition"
 ANSWERS = {
     SYMBOLS: symbols,
     DEFINITION: definition,
-    "textDocument/hover": nothing,
-    "rust-analyzer/expandMacro": nothing,
+    "textDocument/hover": hover,
+    "rust-analyzer/expandMacro": expansion,
 }
 
 

@@ -276,7 +276,7 @@ fn expand_subcommand<'a>(alloc: Global) -> Result<Command<'a>, AllocError>
     ensures shape { IfOk result (λ c. IsExpandSubcommand (shape_of c)) }
     ensures own { IfOk result (λ c. (fields_of c).has_globals ≡ false) }
 {
-    let about = "Prints the expansion of a text, and reports its faults";
+    let about = "Prints the expansion of a text: FILE, or FILE:LINE:COLUMN for one call";
     text_subcommand(alloc, "expand", about)?
         .arg(layout(alloc))?
         .arg(json(alloc))?

@@ -1,7 +1,7 @@
 //! Explains the faults of a text.
 ghost use Rattle.std.specs.Prelude.{◌<◌, ◌^◌, length};
 
-use crate::place::Place;
+use crate::place::{Place, byte_at};
 use crate::view::reply_of;
 use any_grammar::AnyGrammar;
 use bridge::{Read, ReadFault, ReadFaultKind, read};
@@ -10,7 +10,6 @@ use expander::{Edition, Fault, FaultKind, Options, Prelude, Reply};
 use expander_run::lines::{fault_words, read_fault_words, refusal_words};
 use program_files::stopped;
 use rustc_lexer::LexedText;
-use source_snippet::line_at;
 use std::alloc::{AllocError, Global};
 use std::io;
 use std::process::ExitCode;
@@ -40,38 +39,6 @@ fn label(kind: FaultKind, unfit: Unfit) -> &'static str {
         (FaultKind::Unspellable, _) => "a token of this cannot be written, and is left out",
         (FaultKind::TooLarge, _) => "this makes more than --most-calls and --most-tokens say",
     }
-}
-
-// The byte at which a line begins, if the text has so many lines.
-fn line_start(text: &str, line: usize) -> Option<usize> {
-    let bytes = text.as_bytes();
-    let mut left = line.checked_sub(1)?;
-    let mut start = 0usize;
-    for at in 0..bytes.len() {
-        if left == 0 {
-            break;
-        }
-        if bytes[at] == b'\n' {
-            left = left.saturating_sub(1);
-            start = at.saturating_add(1);
-        }
-    }
-    if left == 0 { Some(start) } else { None }
-}
-
-// The byte at a place, if the text has it.
-fn byte_at(text: &str, place: Place) -> Option<usize> {
-    let line = line_at(text, line_start(text, place.line)?);
-    let mut left = place.column.checked_sub(1)?;
-    let mut at = line.start;
-    for character in line.text.chars() {
-        if left == 0 {
-            break;
-        }
-        left = left.saturating_sub(1);
-        at = at.saturating_add(character.len_utf8());
-    }
-    if left == 0 { Some(at) } else { None }
 }
 
 // Which faults are explained: all, or those that begin at a byte.

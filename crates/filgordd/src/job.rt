@@ -71,8 +71,8 @@ pub(crate) struct Job<'a> {
     pub(crate) with: Vec<&'a str>,
     /// The words for options of `cfg`, in order.
     pub(crate) cfg: Vec<&'a str>,
-    /// The path of the text's file; without one it is standard input. To explain faults, the line
-    /// and column of one may follow.
+    /// The path of the text's file; without one it is standard input. The line and column of a call
+    /// to expand, or of a fault to explain, may follow.
     pub(crate) file: Option<&'a str>,
     /// The paths of all files that were named, in order.
     pub(crate) files: Vec<&'a str>,

@@ -1,5 +1,6 @@
 //! Does what the program is asked for.
 
+use crate::call::expand_call;
 use crate::conditions::{cfg_of, under};
 use crate::crates::perform_crate;
 use crate::explain::explain;
@@ -71,6 +72,22 @@ fn tell(
     }
 }
 
+// Expands the call at a place of a text, and tells of faults too that its dialect excuses.
+fn expand_at(
+    rt: &HostRuntime,
+    task: Task,
+    prelude: &Prelude,
+    text: &[u8],
+    place: Place,
+) -> io::Result<ExitCode> {
+    if task.json {
+        return misused(rt, "--json", &"it takes no place in a file");
+    }
+    let mut options = task.options;
+    options.dialect.excuses = false;
+    expand_call(rt, &options, prelude, text, place, task.layout)
+}
+
 // Answers a script line by line, as the crate `replay_script` says, and reports why it ended.
 fn replay<R: Read + Drop>(
     rt: &HostRuntime,
@@ -104,7 +121,8 @@ struct Task {
     layout: bool,
     // Whether the reply is told as JSON.
     json: bool,
-    // Which faults are explained: those at this place, or all.
+    // The place of the call that is expanded, or of the faults that are explained. Without one all
+    // are.
     place: Option<Place>,
 }
 
@@ -119,6 +137,9 @@ fn answer(
     warn(rt, &task.options, name, text);
     if task.action == Action::Explain {
         return tell(rt, task, others.prelude, name, text);
+    }
+    if let Some(place) = task.place {
+        return expand_at(rt, task, &others.prelude, text, place);
     }
     let Task {
         action,

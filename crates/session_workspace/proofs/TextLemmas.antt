@@ -140,6 +140,13 @@ among front back t =
     length-append front (t ∷ back) in
     (length front, omega arith, get_or-append_seam front t back t)
 
+-- and so is the first of a name
+pub first_among : (uri : List ℕ) (texts : List OpenText) (i : ℕ) (first : IsFirst uri texts i)
+    → Contains texts first.text
+first_among uri texts i first =
+    subst (λ (ts : List OpenText). Contains ts first.text) (sym (parts_of uri texts i first))
+    (among (take i texts) (drop (i + 1) texts) first.text)
+
 -- ---- what the client is sent
 
 -- what is sent for a text shows its diagnostics

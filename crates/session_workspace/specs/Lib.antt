@@ -5,5 +5,6 @@ pub mod Diagnostics
 pub mod OpenTexts
 pub mod Symbols
 pub mod Serving
+pub mod Questions
 -- what the functions inside the crate promise each other
 pub mod Losses

@@ -1,19 +1,24 @@
 //! The workspace of sessions.
-ghost use Rattle.std.specs.Prelude.{◌≡◌, ◌++◌, ◌∷◌, [], IfErr, IfOk, OnErr, OnOk, map, option_map};
+ghost use Rattle.std.specs.Prelude.{◌≡◌, ◌<◌, ◌^◌, ◌++◌, ◌∷◌, [], IfErr, IfOk, OnErr, OnOk, length};
+ghost use Rattle.std.specs.Prelude.{map, option_map};
 ghost use Rattle.serde_json.specs.View.{view};
 ghost use Rattle.client_texts.specs.Texts.{with_edit, without};
 ghost use Rattle.client_texts.specs.Views.{change_view, note_view};
 ghost use Rattle.lsp_server.specs.Workspaces.{Follows};
 ghost use Rattle.session_workspace.specs.OpenTexts.{IsFirstOf, IsLost, IsTold, IsToldIfOpen};
 ghost use Rattle.session_workspace.specs.OpenTexts.{IsToldOf, Tells, document_of, documents_of};
+ghost use Rattle.session_workspace.specs.Questions.{Answers, IsAnswered};
 
+use crate::calls::{expansion_at, hover_at};
 use crate::definitions::definition_at;
 use crate::diagnostics::withdrawal;
 use crate::lost::{Lost, loss_message};
 use crate::open_text::OpenText;
 use crate::outline::symbols_of;
 use crate::setup::{Setup, session_over};
+use any_grammar::AnyGrammar;
 use client_texts::{Change, Note};
+use expander_session::session::Session;
 use lsp_server::{Question, Workspace};
 use serde_json::Value;
 use std::alloc::{AllocError, Global};
@@ -34,6 +39,28 @@ pub struct SessionWorkspace<S> {
     pub(crate) setup: S,
     pub(crate) shown: Shown,
     pub(crate) texts: Vec<OpenText>,
+}
+
+// The answer to a question about a session's text, which has this name.
+fn answer_of(
+    alloc: Global,
+    question: Question,
+    uri: &str,
+    session: &Session<AnyGrammar>,
+) -> Result<Value, AllocError>
+    ensures { IfOk result (λ v.
+        length session.now.text < 2 ^ 32 → Answers question session.now (view v)) }
+{
+    let text = session.text();
+    if text.len() > u32::MAX as usize {
+        return Ok(Value::Null);
+    }
+    match question {
+        Question::Hover(place) => hover_at(alloc, session, place),
+        Question::Expansion(place) => expansion_at(alloc, session, place),
+        Question::Symbols => symbols_of(alloc, text),
+        Question::Definition(place) => definition_at(alloc, uri, text, place),
+    }
 }
 
 // The first of these texts that has this name.
@@ -187,18 +214,14 @@ impl<S: Setup> Workspace for SessionWorkspace<S> {
         }
     }
 
-    fn ask(&mut self, question: Question, uri: &str) -> Result<Option<Value>, AllocError> {
+    fn ask(&mut self, question: Question, uri: &str) -> Result<Option<Value>, AllocError>
+        ensures { IfOk result (λ answer. IsAnswered question uri.now self.old.texts.items
+            (option_map view answer)) }
+    {
         let Some(i) = find(self.texts.as_slice(), uri) else {
             return Ok(None);
         };
-        let text = self.texts[i].session.text();
-        if text.len() > u32::MAX as usize {
-            return Ok(Some(Value::Null));
-        }
-        match question {
-            Question::Symbols => Ok(Some(symbols_of(self.alloc, text)?)),
-            Question::Definition(place) => Ok(Some(definition_at(self.alloc, uri, text, place)?)),
-            Question::Hover(_) | Question::Expansion(_) => Ok(Some(Value::Null)),
-        }
+        let answer = answer_of(self.alloc, question, uri, &self.texts[i].session)?;
+        Ok(Some(answer))
     }
 }

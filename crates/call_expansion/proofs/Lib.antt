@@ -1,0 +1,9 @@
+-- lemmas by subject; the worked examples
+mod ListLemmas
+mod AroundLemmas
+mod AnswerLemmas
+mod MovedLemmas
+mod ScopeLemmas
+mod ExpansionLemmas
+mod TextLemmas
+mod Rows

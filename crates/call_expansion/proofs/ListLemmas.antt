@@ -1,0 +1,45 @@
+-- Lists that are filtered, and lists that a loop goes through.
+use Rattle.std.proofs.Common.{◌≡◌, ◌<◌, ◌≤◌, ◌+◌, ℕ, List, [], ◌∷◌, ◌++◌, refl, sym, ap, ◌∙◌, Bool, true, false, cond, drop, get_or, length, map}
+use Rattle.std.specs.Prelude.{◌||◌, filter}
+use Rattle.std.specs.List.{list_any}
+use Rattle.std.proofs.lemmas.List.{at_drop_all, at_drop_more}
+
+pub filter-append : {X : Type 0} (p : X → Bool) (xs ys : List X) → filter p (xs ++ ys) ≡ filter p xs ++ filter p ys
+filter-append p [] ys = refl
+filter-append {X} p (x ∷ xs) ys = go (p x) (filter-append p xs ys)
+  where
+    go : (b : Bool) → filter p (xs ++ ys) ≡ filter p xs ++ filter p ys → cond b (x ∷ filter p (xs ++ ys)) (filter p (xs ++ ys)) ≡ cond b (x ∷ filter p xs) (filter p xs) ++ filter p ys
+    go true e = ap (λ zs. x ∷ zs) e
+    go false e = e
+
+-- one of what is made of a list
+pub any-map : {X Y : Type 0} (f : X → Y) (p : Y → Bool) (xs : List X) → list_any (λ x. p (f x)) xs ≡ list_any p (map f xs)
+any-map f p [] = refl
+any-map f p (x ∷ xs) = ap (λ b. p (f x) || b) (any-map f p xs)
+
+-- ---- the rest of a list from an index on
+
+-- what a function of lists gives for the rest
+pub at_next : {X Y : Type 0} (F : List X → Y) (xs : List X) (i : ℕ) (x : X) → i < length xs → x ≡ get_or xs i x → F (drop i xs) ≡ F (x ∷ drop (i + 1) xs)
+at_next F xs i x inside is = at_drop_more F xs i x inside ∙ ap (λ z. F (z ∷ drop (i + 1) xs)) (sym is)
+
+or_here : (a b : Bool) → a ≡ true → (a || b) ≡ true
+or_here true b e = refl
+or_here false b e = absurd (cc e)
+
+or_later : (a b : Bool) → a ≡ false → (a || b) ≡ b
+or_later false b e = refl
+or_later true b e = absurd (cc e)
+
+-- one that passes is there
+pub any_here : {X : Type 0} (p : X → Bool) (xs : List X) (i : ℕ) (x : X) → i < length xs → x ≡ get_or xs i x → p x ≡ true → list_any p (drop i xs) ≡ true
+any_here p xs i x inside is e = at_next (list_any p) xs i x inside is ∙ or_here (p x) _ e
+
+-- one that does not pass is passed by
+pub any_later : {X : Type 0} (p : X → Bool) (xs : List X) (i : ℕ) (x : X) → i < length xs → x ≡ get_or xs i x → p x ≡ false
+    → list_any p (drop i xs) ≡ list_any p (drop (i + 1) xs)
+any_later p xs i x inside is e = at_next (list_any p) xs i x inside is ∙ or_later (p x) _ e
+
+-- none is left
+pub any_none : {X : Type 0} (p : X → Bool) (xs : List X) (i : ℕ) → length xs ≤ i → list_any p (drop i xs) ≡ false
+any_none p xs i past = at_drop_all (list_any p) xs i past

@@ -1,0 +1,99 @@
+-- What a question about an open text is answered. (LSP 3.17, "Hover Request" and "Document Symbols
+-- Request"; "Expand Macro" of rust-analyzer.)
+use Rattle.std.specs.Prelude.{◌≡◌, ◌⊎◌, ◌<◌, ◌++◌, ◌^◌, ℕ, List, [], ◌∷◌, codes, Contains, length, min, string_bytes, true, Option, Some, None, ⊤}
+use Rattle.serde_json.specs.Data.{Data, null, object, string, member, no_members}
+use Rattle.any_grammar.specs.Answer.{answer}
+use Rattle.any_grammar.specs.declared.chosen.AnyGrammar.{AnyGrammar}
+use Rattle.bridge.specs.declared.printing.printer.Printed.{Printed}
+use Rattle.call_expansion.specs.Texts.{IsFound, NeedsTooMany, text_layers}
+use Rattle.call_expansion.specs.declared.answer.Called.{Called}
+use Rattle.call_expansion.specs.declared.text_call.Found.{Found}
+use Rattle.call_expansion.specs.declared.text_call.Found.TheVariants.{Call}
+use Rattle.code_layout.specs.Words.{words_of}
+use Rattle.expander_model.specs.declared.fault.FaultKind.{FaultKind}
+use Rattle.expander_run.specs.Lines.{fault_words}
+use Rattle.expander_session.specs.State.{State, definitions_of}
+use Rattle.line_index.specs.Lines.{offset_of}
+use Rattle.line_index.specs.declared.positions.Position.{Position}
+use Rattle.lsp_server.specs.declared.workspace.Question.{Question}
+use Rattle.lsp_server.specs.declared.workspace.Question.TheVariants.{Hover, Definition, Symbols, Expansion}
+use Rattle.session_workspace.specs.OpenTexts.{HaveNone, is_named}
+use Rattle.session_workspace.specs.Ranges.{range_data}
+use Rattle.session_workspace.specs.Symbols.{ListsSymbols}
+use Rattle.session_workspace.specs.declared.open_text.OpenText.{OpenText}
+
+-- ---- calls
+
+-- the byte at a position
+abbrev pub byte_at : List ℕ → Position → ℕ
+byte_at text p = min (length text) (offset_of text p.line p.column)
+
+-- what is found at a position of a session's text, by its options and after its prelude: what the
+-- text's meaning says; nothing where the text, or what a rule puts out, has too many tokens
+abbrev pub FindsAt : State AnyGrammar → Position → Option Found → Type 0
+FindsAt s place (Some found) = IsFound (text_layers (answer s.grammar) s.edition s.dialect) s.depth
+    (definitions_of s.prelude) s.text (byte_at s.text place) found
+FindsAt s place None = NeedsTooMany (text_layers (answer s.grammar) s.edition s.dialect) s.depth
+    (definitions_of s.prelude) s.text
+
+-- a text has the words of a printed one
+abbrev pub IsLaidOut : (printed laid : List ℕ) → Type 0
+IsLaidOut printed laid = words_of laid ≡ words_of printed
+
+-- an answer has the name of a macro, and what came of a call: nothing if the call stays
+abbrev pub ShowsTokens : Option Printed → Data → Type 0
+ShowsTokens (Some p) data = (name laid : List ℕ) × IsLaidOut (string_bytes p.text) laid
+    × (data ≡ object (member (codes "expansion") (string laid)
+    (member (codes "name") (string name) no_members)))
+ShowsTokens None data = data ≡ null
+
+abbrev pub ShowsExpansion : Option Found → Data → Type 0
+ShowsExpansion (Some (Call c)) data = ShowsTokens c.gives data
+ShowsExpansion _ data = data ≡ null
+
+-- a text in a block of code, as Markdown has it
+abbrev pub code_block : List ℕ → List ℕ
+code_block laid = codes "```rust\n" ++ (laid ++ codes "\n```")
+
+-- what is shown of a call: what came of it, or why it stays. A call without a fault has no
+-- definition, or its dialect excuses that no rule fits
+abbrev pub IsHoverText : Option Printed → List FaultKind → List ℕ → Type 0
+IsHoverText (Some p) faults shown =
+    (laid : List ℕ) × IsLaidOut (string_bytes p.text) laid × (shown ≡ code_block laid)
+IsHoverText None [] shown =
+    shown ≡ codes "no definition of this macro is known here, or no rule of it fits"
+IsHoverText None (fault ∷ _) shown = shown ≡ fault_words fault
+
+-- that is shown for the bytes of the call
+abbrev pub hover_data : (text shown : List ℕ) → Called → Data
+hover_data text shown c =
+    object (member (codes "contents")
+    (object (member (codes "kind") (string (codes "markdown"))
+    (member (codes "value") (string shown) no_members)))
+    (member (codes "range") (range_data text c.place.range) no_members))
+
+abbrev pub ShowsHover : List ℕ → Option Found → Data → Type 0
+ShowsHover text (Some (Call c)) data =
+    (shown : List ℕ) × IsHoverText c.gives c.faults.items shown × (data ≡ hover_data text shown c)
+ShowsHover text _ data = data ≡ null
+
+-- ---- all questions
+
+-- what is shown of what is found at a position
+abbrev pub ShowsFound : (Option Found → Data → Type 0) → State AnyGrammar → Position → Data → Type 0
+ShowsFound Shows s place data = (found : Option Found) × FindsAt s place found × Shows found data
+
+-- an answer to a question about a text; that a call's definition is found is not said
+abbrev pub Answers : Question → State AnyGrammar → Data → Type 0
+Answers (Hover place) s data = ShowsFound (ShowsHover s.text) s place data
+Answers (Expansion place) s data = ShowsFound ShowsExpansion s place data
+Answers Symbols s data = ListsSymbols s.text data
+Answers (Definition place) s data = ⊤
+
+-- an answer about the open text of this name, or none where none has it. A session's text has less
+-- than 2^32 bytes
+abbrev pub IsAnswered : Question → List ℕ → List OpenText → Option Data → Type 0
+IsAnswered question uri texts None = HaveNone uri texts
+IsAnswered question uri texts (Some data) = (t : OpenText) × Contains texts t
+    × (is_named uri t ≡ true)
+    × (length t.session.text < 2 ^ 32 → Answers question t.session data)

@@ -1,0 +1,155 @@
+//! What comes of the call at a place of a text.
+ghost use Rattle.std.specs.Prelude.{◌≡◌, ◌<◌, ◌^◌, ◌×◌, IfOk, List, length, option_map, string_bytes, ℕ};
+ghost use Rattle.serde_json.specs.View.{view};
+ghost use Rattle.session_workspace.specs.Questions.{FindsAt, IsHoverText, IsLaidOut};
+ghost use Rattle.session_workspace.specs.Questions.{ShowsExpansion, ShowsFound, ShowsHover};
+ghost use Rattle.session_workspace.specs.Questions.{ShowsTokens, code_block, hover_data};
+
+use crate::ranges::{START, range_value};
+use any_grammar::AnyGrammar;
+use bridge::Printed;
+use call_expansion::answer::Called;
+use call_expansion::text_call::{CallOptions, Found, call_in_text};
+use code_layout::layout_text;
+use expander_model::fault::FaultKind;
+use expander_run::lines::fault_words;
+use expander_session::session::Session;
+use line_index::{Position, offset_of};
+use serde_json::{Value, json};
+use std::alloc::{AllocError, Global};
+use tt_data::{TextRange, TtFault};
+
+const UNKNOWN: &str = "no definition of this macro is known here, or no rule of it fits";
+
+// What is found at a place of a session's text. `None` if that takes too many tokens.
+fn found_at(
+    alloc: Global,
+    session: &Session<AnyGrammar>,
+    place: Position,
+) -> Result<Option<Found>, AllocError>
+    requires { length session.now.text < 2 ^ 32 }
+    ensures { IfOk result (FindsAt session.now place) }
+{
+    let text = session.text();
+    let at = text.len().min(offset_of(text, place)) as u32;
+    let by = CallOptions {
+        grammar: session.grammar(),
+        edition: session.edition(),
+        dialect: session.dialect(),
+        depth: session.depth(),
+    };
+    match call_in_text(alloc, text, &by, session.prelude(), at) {
+        Ok(found) => Ok(Some(found)),
+        Err(TtFault::Tokens) => Ok(None),
+        Err(_) => Err(AllocError),
+    }
+}
+
+// The bytes of a name.
+fn name_in(text: &str, name: TextRange) -> &str {
+    text.get(name.start as usize..name.end as usize).unwrap_or("")
+}
+
+// What came of a call of this macro, if it does not stay.
+fn tokens_value(alloc: Global, name: &str, gives: &Option<Printed>) -> Result<Value, AllocError>
+    ensures { IfOk result (λ v. ShowsTokens gives.now (view v)) }
+{
+    let Some(printed) = gives else {
+        return Ok(Value::Null);
+    };
+    let laid = layout_text(alloc, printed.text.as_str())?;
+    json!(in alloc; {"name": name, "expansion": laid})
+}
+
+fn expansion_value(alloc: Global, text: &str, found: &Option<Found>) -> Result<Value, AllocError>
+    ensures { IfOk result (λ v. ShowsExpansion found.now (view v)) }
+{
+    match found {
+        Some(Found::Call(called)) => {
+            let name = name_in(text, called.place.name);
+            tokens_value(alloc, name, &called.gives)
+        }
+        _ => Ok(Value::Null),
+    }
+}
+
+// A printed text, laid out in a block of code.
+fn code_block(alloc: Global, printed: &str) -> Result<String, AllocError>
+    ensures { IfOk result (λ shown. (laid : List ℕ) × IsLaidOut printed.now laid
+        × (string_bytes shown ≡ code_block laid)) }
+{
+    let laid = layout_text(alloc, printed)?;
+    format!(in alloc; "```rust\n{laid}\n```")
+}
+
+// What is shown of a call.
+fn hover_text(
+    alloc: Global,
+    gives: &Option<Printed>,
+    faults: &[FaultKind],
+) -> Result<String, AllocError>
+    ensures { IfOk result (λ shown. IsHoverText gives.now faults.now (string_bytes shown)) }
+{
+    match (gives, faults.first()) {
+        (Some(printed), _) => code_block(alloc, printed.text.as_str()),
+        (None, Some(fault)) => String::from_str(alloc, fault_words(*fault)),
+        (None, None) => String::from_str(alloc, UNKNOWN),
+    }
+}
+
+// That this is shown for the bytes of a call.
+fn hover_data(
+    alloc: Global,
+    text: &str,
+    shown: String,
+    called: &Called,
+) -> Result<Value, AllocError>
+    requires { length text.now < 2 ^ 32 }
+    ensures { IfOk result (λ v. view v
+        ≡ hover_data text.now (string_bytes shown) called.now) }
+{
+    let (range, _spot) = range_value(alloc, text, START, called.place.range)?;
+    json!(in alloc; {"contents": {"kind": "markdown", "value": shown}, "range": range})
+}
+
+fn hover_value(alloc: Global, text: &str, found: &Option<Found>) -> Result<Value, AllocError>
+    requires { length text.now < 2 ^ 32 }
+    ensures { IfOk result (λ v. ShowsHover text.now found.now (view v)) }
+{
+    match found {
+        Some(Found::Call(called)) => {
+            let shown = hover_text(alloc, &called.gives, called.faults.as_slice())?;
+            hover_data(alloc, text, shown, called)
+        }
+        _ => Ok(Value::Null),
+    }
+}
+
+/// What the call at a place of a session's text expands to, laid out, with the name of its macro.
+/// Null if it stays, or no call is there.
+pub(crate) fn expansion_at(
+    alloc: Global,
+    session: &Session<AnyGrammar>,
+    place: Position,
+) -> Result<Value, AllocError>
+    requires { length session.now.text < 2 ^ 32 }
+    ensures { IfOk result (λ v. ShowsFound ShowsExpansion session.now place (view v)) }
+{
+    let found = found_at(alloc, session, place)?;
+    expansion_value(alloc, session.text(), &found)
+}
+
+/// What is shown of the call at a place of a session's text: what it expands to, laid out, or why it
+/// stays. Null if no call is there.
+pub(crate) fn hover_at(
+    alloc: Global,
+    session: &Session<AnyGrammar>,
+    place: Position,
+) -> Result<Value, AllocError>
+    requires { length session.now.text < 2 ^ 32 }
+    ensures { IfOk result (λ v.
+        ShowsFound (ShowsHover session.now.text) session.now place (view v)) }
+{
+    let found = found_at(alloc, session, place)?;
+    hover_value(alloc, session.text(), &found)
+}
