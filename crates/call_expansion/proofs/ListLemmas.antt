@@ -2,7 +2,7 @@
 use Rattle.std.proofs.Common.{◌≡◌, ◌<◌, ◌≤◌, ◌+◌, ℕ, zero, suc, List, [], ◌∷◌, ◌++◌, refl, sym, ap, ◌∙◌, arith, Bool, true, false, cond, drop, get_or, length, map, take}
 use Rattle.std.specs.Prelude.{◌||◌, filter}
 use Rattle.std.specs.List.{list_any}
-use Rattle.std.proofs.lemmas.List.{at_drop_all, at_drop_more}
+use Rattle.std.proofs.lemmas.List.{at_drop_all, at_drop_more, map-append}
 
 pub filter-append : {X : Type 0} (p : X → Bool) (xs ys : List X) → filter p (xs ++ ys) ≡ filter p xs ++ filter p ys
 filter-append p [] ys = refl
@@ -50,3 +50,14 @@ taken_all f [] zero past = refl
 taken_all f [] (suc i) past = refl
 taken_all f (x ∷ xs) zero past = absurd (omega (arith, past))
 taken_all f (x ∷ xs) (suc i) past = ap (λ ys. f x ∷ ys) (taken_all f xs i (omega (arith, past)))
+
+-- one more of those so far
+take_more : {X : Type 0} (xs : List X) (i : ℕ) (x : X) → i < length xs → x ≡ get_or xs i x → take (suc i) xs ≡ take i xs ++ x ∷ []
+take_more [] i x h is = absurd (omega (arith, h))
+take_more (y ∷ xs) zero x h is = ap (λ z. z ∷ []) (sym is)
+take_more (y ∷ xs) (suc i) x h is = ap (λ zs. y ∷ zs) (take_more xs i x (omega (arith, h)) is)
+
+pub mapped_more : {X Y : Type 0} (f : X → Y) (xs : List X) (i : ℕ) (x : X) → i < length xs → x ≡ get_or xs i x → map f (take (i + 1) xs) ≡ map f (take i xs) ++ f x ∷ []
+mapped_more f xs i x inside is =
+    let e : i + 1 ≡ suc i = omega arith in
+    rw e (ap (map f) (take_more xs i x inside is) ∙ map-append f (take i xs) (x ∷ []))
