@@ -1,7 +1,7 @@
 -- What is said of a call, event by event and fault by fault.
 use Rattle.std.proofs.Common.{◌≡◌, ◌<◌, ◌≤◌, ◌+◌, ℕ, List, [], ◌∷◌, ◌++◌, append_assoc, append-nil, refl, sym, ap, ◌∙◌, Bool, true, false, cond, drop, get_or, length, map, take}
 use Rattle.std.specs.Prelude.{Option, Some, None, filter, if◌then◌else◌}
-use Rattle.std.proofs.lemmas.List.{at_drop_all, map-append}
+use Rattle.std.proofs.lemmas.List.{at_drop_all, at_drop_more, map-append}
 use Rattle.tt_data.specs.Walk.{Step}
 use Rattle.tt_data.specs.declared.span.Span.{Span}
 use Rattle.tt_data.specs.declared.span.TextRange.{TextRange}
@@ -77,17 +77,20 @@ or_nothing None = refl
 or_nothing (Some x) = refl
 
 module _ (steps : List PlacedStep) (faults : List (FaultKind × Span)) (calls : List CallPlace) (i : ℕ) where
-  module _ (c : CallPlace) (inside : i < length calls) (is : c ≡ get_or calls i c) (last : Option CallPlace) where
-    chosen_next : chosen steps faults (drop i calls) ≡ (if is_told steps faults c then Some c else or_else (chosen steps faults (drop (i + 1) calls)) (Some c))
-    chosen_next = at_next (chosen steps faults) calls i c inside is
+  module _ (d : CallPlace) (inside : i < length calls) (last : Option CallPlace) where
+    abbrev C : CallPlace
+    C = get_or calls i d
 
-    pub chosen_here : is_told steps faults c ≡ true → or_else (chosen steps faults (drop i calls)) last ≡ chosen steps faults calls → Some c ≡ chosen steps faults calls
-    chosen_here e h = sym (ap (λ o. or_else o last) (chosen_next ∙ if_true (is_told steps faults c) _ _ e)) ∙ h
+    chosen_next : chosen steps faults (drop i calls) ≡ (if is_told steps faults C then Some C else or_else (chosen steps faults (drop (i + 1) calls)) (Some C))
+    chosen_next = at_drop_more (chosen steps faults) calls i d inside
 
-    pub chosen_later : is_told steps faults c ≡ false → or_else (chosen steps faults (drop i calls)) last ≡ chosen steps faults calls
-        → or_else (chosen steps faults (drop (i + 1) calls)) (Some c) ≡ chosen steps faults calls
+    pub chosen_here : is_told steps faults C ≡ true → or_else (chosen steps faults (drop i calls)) last ≡ chosen steps faults calls → Some C ≡ chosen steps faults calls
+    chosen_here e h = sym (ap (λ o. or_else o last) (chosen_next ∙ if_true (is_told steps faults C) _ _ e)) ∙ h
+
+    pub chosen_later : is_told steps faults C ≡ false → or_else (chosen steps faults (drop i calls)) last ≡ chosen steps faults calls
+        → or_else (chosen steps faults (drop (i + 1) calls)) (Some C) ≡ chosen steps faults calls
     chosen_later e h =
-        sym (ap (λ o. or_else o last) (chosen_next ∙ if_false (is_told steps faults c) _ _ e) ∙ or_twice (chosen steps faults (drop (i + 1) calls)) c last) ∙ h
+        sym (ap (λ o. or_else o last) (chosen_next ∙ if_false (is_told steps faults C) _ _ e) ∙ or_twice (chosen steps faults (drop (i + 1) calls)) C last) ∙ h
 
   pub chosen_last : (last : Option CallPlace) → length calls ≤ i → or_else (chosen steps faults (drop i calls)) last ≡ chosen steps faults calls → last ≡ chosen steps faults calls
   chosen_last last past h = sym (ap (λ o. or_else o last) (at_drop_all (chosen steps faults) calls i past)) ∙ h

@@ -76,7 +76,7 @@ alone_world w = record {
 }
 
 -- a piece in that scope
-abbrev meant : World Definition → List Definition → ℕ → Forest → Outcome Definition
+abbrev pub meant : World Definition → List Definition → ℕ → Forest → Outcome Definition
 meant w ds depth piece = expanded w (λ d. d) (found_in w.dialect ds) depth piece
 
 abbrev kept : World Definition → List Definition → ℕ → Forest → Outcome Numbered

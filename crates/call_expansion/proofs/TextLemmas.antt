@@ -1,6 +1,6 @@
 -- What is said in the pieces of a text, piece by piece.
 use Rattle.std.proofs.Common.{◌≡◌, ◌∙◌, ℕ, Bool, true, false, List, [], ◌∷◌, refl, ap, sym, subst}
-use Rattle.std.specs.Prelude.{◌||◌, Option, Some, None, is_some, option_map}
+use Rattle.std.specs.Prelude.{◌||◌, Option, Some, None, Result, Ok, Err, is_some, option_map}
 use Rattle.std.specs.List.{list_any}
 use Rattle.mbe.specs.Grammar.{Grammar}
 use Rattle.tt_data.specs.Forest.{Forest}
@@ -10,7 +10,9 @@ use Rattle.cfg_options.specs.Conditions.{or_else}
 use Rattle.expander_model.specs.Definitions.{Definition, definition_of}
 use Rattle.expander_model.specs.Expansion.{Outcome, PlacedStep}
 use Rattle.expander_model.specs.Held.{Numbered}
-use Rattle.expander_model.specs.Meaning.{Layers, Member, member, members_after, with_definition}
+use Rattle.bridge.specs.declared.reading.outcome.ReadFault.{ReadFault}
+use Rattle.expander_model.specs.Meaning.{Layers, Member, member, members_after, members_in, with_definition}
+use Rattle.expander_model.specs.Pieces.{cut, pieces, separated}
 use Rattle.expander_model.specs.declared.dialect.Dialect.{Dialect}
 use Rattle.expander_model.specs.declared.fault.FaultKind.{FaultKind}
 use Rattle.expander_scope.specs.ScopeTable.{expanded_under}
@@ -18,9 +20,11 @@ use Rattle.expander_scope.specs.declared.scope.Scope as table
 use Rattle.call_expansion.specs.Answers.{Answer, answer_among}
 use Rattle.call_expansion.specs.Around.{calls_around}
 use Rattle.call_expansion.specs.InScope.{HasInScope}
-use Rattle.call_expansion.specs.Texts.{bursts, first_answer, member_answer, text_layers}
+use Rattle.call_expansion.specs.Texts.{HasTooManyIn, IsFoundIn, answer_in, bursts, first_answer, member_answer, text_layers}
+use Rattle.call_expansion.specs.declared.answer.Called.{Called}
+use Rattle.call_expansion.specs.declared.text_call.Found.TheVariants.{Unread, Nothing, Call}
 use Rattle.call_expansion.specs.declared.around.CallPlace.{CallPlace}
-use Rattle.call_expansion.proofs.ExpansionLemmas.{Agrees, scope_agrees}
+use Rattle.call_expansion.proofs.ExpansionLemmas.{Agrees, meant, scope_agrees}
 
 -- ---- one piece
 
@@ -41,7 +45,7 @@ module _ (layers : Layers) (depth at : ℕ) (before : List Definition) (piece : 
   without_calls calls none are = go (definition_of piece)
     where
       go : (o : Option Definition) → None ≡ member_answer at (member layers depth before piece o)
-      go None = nothing_among _ _ (calls_around at piece) (sym are ∙ none)
+      go None = nothing_among (meant layers.world before depth piece).steps (meant layers.world before depth piece).faults (calls_around at piece) (sym are ∙ none)
       go (Some d) = refl
 
 plain_is : (o : Option Definition) → is_some o ≡ false → o ≡ None
@@ -60,9 +64,10 @@ module _ (grammar : Grammar) (s : table.Scope) (edition : Edition) (dialect : Di
   pub in_plain : (calls : List CallPlace) → calls ≡ calls_around at piece → answer_among O.steps O.faults calls ≡ member_answer at (member L depth before piece (definition_of piece))
   in_plain calls are =
       let agrees = scope_agrees grammar s edition dialect before depth piece same has in
+      let m : Outcome Definition = meant L.world before depth piece in
       ap (answer_among O.steps O.faults) are
       ∙ ap (λ (steps : List PlacedStep). answer_among steps O.faults (calls_around at piece)) agrees.steps
-      ∙ ap (λ (faults : List (FaultKind × Span)). answer_among _ faults (calls_around at piece)) agrees.faults
+      ∙ ap (λ (faults : List (FaultKind × Span)). answer_among m.steps faults (calls_around at piece)) agrees.faults
       ∙ ap (λ (o : Option Definition). member_answer at (member L depth before piece o)) (sym (plain_is (definition_of piece) plain))
 
   -- a rule puts out too much
@@ -125,3 +130,25 @@ module _ (layers : Layers) (depth at : ℕ) where
   pub left_none : (before : List Definition) (all : List Forest) (now : List Definition) (rest : List Forest) → rest ≡ [] → Left before all now rest
       → None ≡ first_answer at (members_after layers depth before all)
   left_none before all now rest e h = sym (ap (λ ps. first_answer at (members_after layers depth now ps)) e) ∙ h.answers
+
+-- ---- a text
+
+module _ (layers : Layers) (depth at : ℕ) (initial : List Definition) (read : Result Forest ReadFault) where
+  pub unread : (fault : ReadFault) → read ≡ Err fault → IsFoundIn layers depth initial read at (Unread fault)
+  unread fault e = subst (λ (r : Result Forest ReadFault). IsFoundIn layers depth initial r at (Unread fault)) (sym e) refl
+
+  module _ (f trees : Forest) (is : read ≡ Ok f) (apart : trees ≡ separated f) where
+    members_are : members_after layers depth initial (cut trees) ≡ members_in layers depth initial f
+    members_are = ap (λ (t : Forest). members_after layers depth initial (cut t)) apart
+
+    pub found_call : (c : Called) → Some (answer_in c) ≡ first_answer at (members_after layers depth initial (cut trees)) → IsFoundIn layers depth initial read at (Call c)
+    found_call c e =
+        subst (λ (r : Result Forest ReadFault). IsFoundIn layers depth initial r at (Call c)) (sym is) (sym (e ∙ ap (first_answer at) members_are))
+
+    pub found_none : None ≡ first_answer at (members_after layers depth initial (cut trees)) → IsFoundIn layers depth initial read at Nothing
+    found_none e =
+        subst (λ (r : Result Forest ReadFault). IsFoundIn layers depth initial r at Nothing) (sym is) (sym (e ∙ ap (first_answer at) members_are))
+
+    pub found_too_many : list_any bursts (members_after layers depth initial (cut trees)) ≡ true → HasTooManyIn layers depth initial read
+    found_too_many e =
+        subst (λ (r : Result Forest ReadFault). HasTooManyIn layers depth initial r) (sym is) (sym (ap (list_any bursts) members_are) ∙ e)
