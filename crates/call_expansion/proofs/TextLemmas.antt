@@ -1,6 +1,6 @@
 -- What is said in the pieces of a text, piece by piece.
-use Rattle.std.proofs.Common.{◌≡◌, ◌∙◌, ℕ, Bool, true, false, List, [], ◌∷◌, refl, ap, sym, subst}
-use Rattle.std.specs.Prelude.{◌||◌, Option, Some, None, is_some, option_map}
+use Rattle.std.proofs.Common.{◌≡◌, ◌∙◌, ℕ, Bool, true, false, List, [], ◌∷◌, refl, ap, sym}
+use Rattle.std.specs.Prelude.{◌||◌, Option, Some, None, is_some}
 use Rattle.std.specs.List.{list_any}
 use Rattle.mbe.specs.Grammar.{Grammar}
 use Rattle.tt_data.specs.Forest.{Forest}
@@ -20,29 +20,9 @@ use Rattle.call_expansion.specs.Around.{calls_around}
 use Rattle.call_expansion.specs.InScope.{HasInScope}
 use Rattle.call_expansion.specs.Texts.{bursts, first_answer, member_answer, text_layers}
 use Rattle.call_expansion.specs.declared.around.CallPlace.{CallPlace}
-use Rattle.call_expansion.proofs.ExpansionLemmas.{Agrees, scope_agrees}
+use Rattle.call_expansion.proofs.ExpansionLemmas.{meant, scope_agrees}
 
 -- ---- one piece
-
-nothing_among : (steps : List PlacedStep) (faults : List (FaultKind × Span)) (calls : List CallPlace) → calls ≡ [] → None ≡ answer_among steps faults calls
-nothing_among steps faults calls e = ap (answer_among steps faults) (sym e)
-
-module _ (layers : Layers) (depth at : ℕ) (before : List Definition) (piece : Forest) where
-  -- nothing is said in a definition
-  pub in_definition : is_some (definition_of piece) ≡ true → None ≡ member_answer at (member layers depth before piece (definition_of piece))
-  in_definition e = go (definition_of piece) e
-    where
-      go : (o : Option Definition) → is_some o ≡ true → None ≡ member_answer at (member layers depth before piece o)
-      go None e = cc
-      go (Some d) e = refl
-
-  -- nor where no call is
-  pub without_calls : (calls : List CallPlace) → calls ≡ [] → calls ≡ calls_around at piece → None ≡ member_answer at (member layers depth before piece (definition_of piece))
-  without_calls calls none are = go (definition_of piece)
-    where
-      go : (o : Option Definition) → None ≡ member_answer at (member layers depth before piece o)
-      go None = nothing_among _ _ (calls_around at piece) (sym are ∙ none)
-      go (Some d) = refl
 
 plain_is : (o : Option Definition) → is_some o ≡ false → o ≡ None
 plain_is None e = refl
@@ -60,9 +40,10 @@ module _ (grammar : Grammar) (s : table.Scope) (edition : Edition) (dialect : Di
   pub in_plain : (calls : List CallPlace) → calls ≡ calls_around at piece → answer_among O.steps O.faults calls ≡ member_answer at (member L depth before piece (definition_of piece))
   in_plain calls are =
       let agrees = scope_agrees grammar s edition dialect before depth piece same has in
+      let m : Outcome Definition = meant L.world before depth piece in
       ap (answer_among O.steps O.faults) are
       ∙ ap (λ (steps : List PlacedStep). answer_among steps O.faults (calls_around at piece)) agrees.steps
-      ∙ ap (λ (faults : List (FaultKind × Span)). answer_among _ faults (calls_around at piece)) agrees.faults
+      ∙ ap (λ (faults : List (FaultKind × Span)). answer_among m.steps faults (calls_around at piece)) agrees.faults
       ∙ ap (λ (o : Option Definition). member_answer at (member L depth before piece o)) (sym (plain_is (definition_of piece) plain))
 
   -- a rule puts out too much

@@ -152,7 +152,7 @@ fn chosen(by: &Expanded<'_>, calls: &[CallPlace]) -> Option<CallPlace>
 }
 
 // What is said of a call.
-fn called(alloc: Global, by: &Expanded<'_>, place: CallPlace) -> Result<Called, TtFault>
+fn answer_of(alloc: Global, by: &Expanded<'_>, place: CallPlace) -> Result<Called, TtFault>
     ensures answer { IfOk result (λ c. answer_in c
         ≡ answer_of (map placed_of by.now.events.now) by.now.faults.now place) }
     ensures memory { IsOkUnless result Memory }
@@ -181,7 +181,7 @@ pub(crate) fn answer_among(
     ensures memory { IsOkUnless result Memory }
 {
     match chosen(by, calls) {
-        Some(place) => Ok(Some(called(alloc, by, place)?)),
+        Some(place) => Ok(Some(answer_of(alloc, by, place)?)),
         None => Ok(None),
     }
 }

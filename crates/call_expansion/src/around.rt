@@ -1,5 +1,5 @@
 //! Finds the calls whose bytes contain a byte.
-ghost use Rattle.std.specs.Prelude.{◌≡◌, ◌∷◌, [], ◌++◌, filter, IfOk, OnOk, Some, true};
+ghost use Rattle.std.specs.Prelude.{◌≡◌, ◌∷◌, [], ◌++◌, filter, false, IfOk, OnOk, Some, true};
 ghost use Rattle.tt_data.specs.Forest.{Forest, group};
 ghost use Rattle.tt_data.specs.declared.delimiter.Delimiter.{Delimiter};
 ghost use Rattle.expander_model.specs.Calls.{marked};

@@ -73,7 +73,8 @@ pub(crate) fn define(
         return Ok(());
     };
     let known = MacroDef::in_list(alloc, scope.edition, piece, definition.name.span)?;
-    enter(alloc, dialect, scope, known)
+    enter(alloc, dialect, scope, known)?;
+    Ok(())
 }
 
 // A definition of another text, with its spans there.

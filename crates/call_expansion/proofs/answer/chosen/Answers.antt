@@ -1,4 +1,4 @@
-use Rattle.std.proofs.Common.{◌≡◌, ◌∙◌, ap, map, sym, true, false, rules}
+use Rattle.std.proofs.Common.{◌∙◌, map, sym}
 use Rattle.expander_scope.specs.Outcomes.{placed_of}
 use Rattle.call_expansion.specs.Answers.{chosen}
 use Rattle.call_expansion.proofs.AnswerLemmas.{chosen_here, chosen_last, chosen_later, or_nothing}
@@ -9,12 +9,12 @@ loop-call-init c = or_nothing (chosen (map placed_of c.args.by.now.events.now) c
 
 pub returns-then-is_told : goal.returns-then-is_told
 returns-then-is_told c =
-    chosen_here (map placed_of c.args.by.now.events.now) c.args.by.now.faults.now c.args.calls.now c.loop-call.call-index c.call-item.result c.loop-call-test.true c.call-item.is c.loop-call.last
+    chosen_here (map placed_of c.args.by.now.events.now) c.args.by.now.faults.now c.args.calls.now c.loop-call.call-index _ c.loop-call-test.true c.loop-call.last
     (sym c.is_told.ensures ∙ c.if-is_told.true) c.loop-call.invariant
 
 pub loop-call-preserved : goal.loop-call-preserved
 loop-call-preserved c =
-    chosen_later (map placed_of c.args.by.now.events.now) c.args.by.now.faults.now c.args.calls.now c.loop-call.call-index c.call-item.result c.loop-call-test.true c.call-item.is c.loop-call.last
+    chosen_later (map placed_of c.args.by.now.events.now) c.args.by.now.faults.now c.args.calls.now c.loop-call.call-index _ c.loop-call-test.true c.loop-call.last
     (sym c.is_told.ensures ∙ c.if-is_told.false) c.loop-call.invariant
 
 pub returns : goal.returns

@@ -11,9 +11,9 @@ use Rattle.call_expansion.proofs.text_call.call_in_pieces.Given as goal
 abbrev pub invariant-loop-piece : goal.invariant-loop-piece
 invariant-loop-piece g l = record {
   read : AreRead l.scope;
-  edition : l.scope.edition ≡ l.by.now.edition;
-  left : (before : List Definition) → HasInScope l.by.now.dialect.now l.fn.scope before → (now : List Definition) × HasInScope l.by.now.dialect.now l.scope now
-      × Left (text_layers (g.G.FragmentGrammar.answer l.by.now.grammar.now) l.by.now.edition l.by.now.dialect.now) l.by.now.depth l.at before (cut l.trees) now (cut l.rest);
+  edition : l.scope.edition ≡ l.by.edition;
+  left : (before : List Definition) → HasInScope l.by.dialect.now l.fn.scope before → (now : List Definition) × HasInScope l.by.dialect.now l.scope now
+      × Left (text_layers (g.G.FragmentGrammar.answer l.by.grammar.now) l.by.edition l.by.dialect.now) l.by.depth l.at before (cut l.trees) now (cut l.rest);
 }
 
 abbrev pub decreases-loop-piece : goal.decreases-loop-piece
