@@ -1,17 +1,15 @@
 -- What is said of a call, event by event and fault by fault.
-use Rattle.std.proofs.Common.{◌≡◌, ◌<◌, ◌≤◌, ◌+◌, ℕ, List, [], ◌∷◌, ◌++◌, append_assoc, append-nil, refl, sym, ap, ◌∙◌, Bool, true, false, cond, drop, get_or, length, map, take}
-use Rattle.std.specs.Prelude.{Option, Some, None, filter, if◌then◌else◌}
-use Rattle.std.proofs.lemmas.List.{at_drop_all, at_drop_more, map-append}
-use Rattle.tt_data.specs.Walk.{Step}
+use Rattle.std.proofs.Common.{◌≡◌, ◌<◌, ◌≤◌, ◌+◌, ℕ, List, [], ◌∷◌, ◌++◌, append_assoc, append-nil, refl, sym, ap, ◌∙◌, Bool, true, false, cond, drop, get_or, length, map}
+use Rattle.std.specs.Prelude.{Option, Some, None, if◌then◌else◌}
+use Rattle.std.proofs.lemmas.List.{at_drop_all, at_drop_more}
 use Rattle.tt_data.specs.declared.span.Span.{Span}
 use Rattle.tt_data.specs.declared.span.TextRange.{TextRange}
 use Rattle.cfg_options.specs.Conditions.{or_else}
 use Rattle.expander_model.specs.Expansion.{PlacedStep}
-use Rattle.expander_model.specs.Printing.{steps_of}
 use Rattle.expander_model.specs.declared.fault.FaultKind.{FaultKind}
-use Rattle.call_expansion.specs.Answers.{chosen, events_of, has_range, is_named, is_told, told_at}
+use Rattle.call_expansion.specs.Answers.{chosen, has_range, is_told, told_at}
 use Rattle.call_expansion.specs.declared.around.CallPlace.{CallPlace}
-use Rattle.call_expansion.proofs.ListLemmas.{at_next, filter-append}
+use Rattle.call_expansion.proofs.ListLemmas.{at_next}
 
 if_true : {X : Type 0} (b : Bool) (x y : X) → b ≡ true → cond b x y ≡ x
 if_true true x y e = refl
@@ -20,27 +18,6 @@ if_true false x y e = absurd (cc e)
 if_false : {X : Type 0} (b : Bool) (x y : X) → b ≡ false → cond b x y ≡ y
 if_false false x y e = refl
 if_false true x y e = absurd (cc e)
-
--- ---- one more event
-
-events_more : (name : TextRange) (before : List PlacedStep) (s : PlacedStep) (some : List PlacedStep) → events_of name (s ∷ []) ≡ some
-    → steps_of (events_of name (before ++ s ∷ [])) ≡ steps_of (events_of name before) ++ steps_of some
-events_more name before s some is =
-    ap steps_of (filter-append (λ (e : PlacedStep). is_named name e.outer) before (s ∷ []) ∙ ap (λ es. events_of name before ++ es) is)
-    ∙ map-append (λ (e : PlacedStep). e.step) (events_of name before) some
-
--- it comes of the call
-pub event_of : (name : TextRange) (before after : List PlacedStep) (s : PlacedStep) → after ≡ before ++ s ∷ [] → is_named name s.outer ≡ true
-    → steps_of (events_of name after) ≡ steps_of (events_of name before) ++ s.step ∷ []
-event_of name before after s is e =
-    ap (λ es. steps_of (events_of name es)) is ∙ events_more name before s (s ∷ []) (if_true (is_named name s.outer) (s ∷ []) [] e)
-
--- it does not
-pub event_of_none : (name : TextRange) (before after : List PlacedStep) (s : PlacedStep) → after ≡ before ++ s ∷ [] → is_named name s.outer ≡ false
-    → steps_of (events_of name after) ≡ steps_of (events_of name before)
-event_of_none name before after s is e =
-    ap (λ es. steps_of (events_of name es)) is ∙ events_more name before s [] (if_false (is_named name s.outer) (s ∷ []) [] e)
-    ∙ append-nil (steps_of (events_of name before))
 
 -- ---- one more fault
 

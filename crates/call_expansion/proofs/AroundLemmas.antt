@@ -1,7 +1,7 @@
 -- A walk passes the calls of trees from left to right.
-use Rattle.std.proofs.Common.{◌≡◌, ◌<◌, ◌+◌, ◌*◌, ℕ, List, [], ◌∷◌, ◌++◌, append_assoc, append-nil, refl, sym, ap, ◌∙◌, arith, true, false}
+use Rattle.std.proofs.Common.{◌≡◌, ◌<◌, ℕ, List, [], ◌∷◌, ◌++◌, append_assoc, append-nil, refl, sym, ap, ◌∙◌, arith, true}
 use Rattle.std.specs.Prelude.{Some, None, filter}
-use Rattle.tt_data.specs.Forest.{Forest, empty, leaf, group, joined, size}
+use Rattle.tt_data.specs.Forest.{Forest, leaf, group, joined, size}
 use Rattle.tt_data.specs.Lent.{leaf_lent}
 use Rattle.tt_data.specs.declared.delimiter.Delimiter.{Delimiter}
 use Rattle.tt_data.specs.declared.leaf.Ident.{Ident}
@@ -15,13 +15,12 @@ use Rattle.expander_model.specs.Expansion.{before_group}
 use Rattle.expander_model.specs.Pieces.{first_start}
 use Rattle.expander_model.specs.WalkSteps.{GoesOn, groups_of}
 use Rattle.expander_model.specs.declared.call.Call.{Call}
-use Rattle.expander_model.specs.declared.tree_walk.Around.{Around}
 use Rattle.expander_model.specs.declared.tree_walk.TreeWalk.{TreeWalk}
 use Rattle.expander_scope.specs.Turns.{steps_in}
 use Rattle.expander_scope.proofs.CallLemmas.{no_call}
-use Rattle.expander_scope.proofs.TurnLemmas.{IsCall, call_is_call, call_smaller, colons_is_call, colons_smaller, is_open, neither}
+use Rattle.expander_scope.proofs.TurnLemmas.{IsCall, call_is_call, call_smaller, is_open, neither}
 use Rattle.call_expansion.specs.Around.{begin_of, calls_around, calls_in, contains, place_of}
-use Rattle.call_expansion.specs.Passing.{Ends, Passes, calls_behind, calls_from, calls_left, turns_left}
+use Rattle.call_expansion.specs.Passing.{Passes, calls_behind, calls_from, calls_left, turns_left}
 use Rattle.call_expansion.specs.declared.around.CallPlace.{CallPlace}
 use Rattle.call_expansion.proofs.ListLemmas.{filter-append}
 
@@ -32,12 +31,6 @@ open_calls : (path : Path) (name : Ident) (bang : Punct) (d : Delimiter) (a rest
 open_calls bare name bang d a rest e = refl
 open_calls (from_crate crate p q) name bang d a rest e = refl
 open_calls (other p q) name bang d a rest e = cc
-
-other_calls : (path : Path) (name : Ident) (bang : Punct) (d : Delimiter) (a rest : Marked) → is_open path ≡ false
-    → calls_in (call path name bang d a rest) ≡ calls_in a ++ calls_in rest
-other_calls bare name bang d a rest e = cc
-other_calls (from_crate crate p q) name bang d a rest e = cc
-other_calls (other p q) name bang d a rest e = refl
 
 -- where a call begins
 first_of_call : (path : Path) (name : Ident) (bang : Punct) (f g : Forest) → is_open path ≡ true → f ≡ joined (before_group path name bang) g
@@ -59,13 +52,6 @@ call_place f c e start stop starts stops =
     ap calls_in k.marks ∙ open_calls k.path c.name k.bang k.brackets (marked c.argument) (marked c.rest) k.is_so
     ∙ ap (λ g. place_of k.path c.name k.brackets ∷ calls_in (marked g)) (sym k.group_is)
     ∙ ap (λ (p : CallPlace). p ∷ calls_in (marked c.from_group)) place
-
--- behind `::` there is none
-colons_calls : (f : Forest) (c : Call) → call_behind_colons f ≡ Some c → calls_in (marked f) ≡ calls_in (marked c.from_group)
-colons_calls f c e =
-    let k : IsCall f c false = colons_is_call f c e in
-    ap calls_in k.marks ∙ other_calls k.path c.name k.bang k.brackets (marked c.argument) (marked c.rest) k.is_so
-    ∙ ap (λ g. calls_in (marked g)) (sym k.group_is)
 
 -- a leaf that begins neither is passed
 leaf_calls : (f rest : Forest) (l : Leaf) → call_at f ≡ None → call_behind_colons f ≡ None → f ≡ leaf l rest → calls_in (marked f) ≡ calls_in (marked rest)
@@ -99,12 +85,6 @@ passes_call at old new before after c p e is here groups pushed =
       less = omega (arith, ap size here, ap steps_in groups, call_smaller old.here c e);
     }
 
-pub passes_colons : (at : ℕ) (old new : TreeWalk) (calls : List CallPlace) (c : Call) → call_behind_colons old.here ≡ Some c
-    → new.here ≡ c.from_group → groups_of new ≡ groups_of old → Passes at old new calls calls
-passes_colons at old new calls c e here groups =
-    passes_none at old new calls (goes_left old new c.from_group (colons_calls old.here c e) here groups)
-    (omega (arith, ap size here, ap steps_in groups, colons_smaller old.here c e))
-
 pub passes_leaf : (at : ℕ) (old new : TreeWalk) (calls : List CallPlace) (l : Leaf) (rest : Forest) → call_at old.here ≡ None → call_behind_colons old.here ≡ None
     → old.here ≡ leaf l rest → new.here ≡ rest → groups_of new ≡ groups_of old → Passes at old new calls calls
 passes_leaf at old new calls l rest none colons is here groups =
@@ -130,12 +110,6 @@ pub passes_step : (at : ℕ) (old new : TreeWalk) (calls : List CallPlace) (s : 
     → GoesOn old (Some s) new → Passes at old new calls calls
 passes_step at old new calls s none colons goes =
     passes_none at old new calls (sym (step_calls old new s none colons goes)) (step_less old new s goes)
-
--- the end of a walk
-pub ends_walk : (at : ℕ) (old new : TreeWalk) (calls : List CallPlace) → GoesOn old None new → Ends at old calls calls
-ends_walk at old new calls (at_end, groups) =
-    sym (append-nil calls)
-    ∙ ap (λ cs. calls ++ filter (contains at) cs) (sym (ap (λ f. calls_from f (groups_of old)) at_end ∙ ap calls_behind groups))
 
 -- its beginning
 pub begins_walk : (at : ℕ) (w : TreeWalk) (trees : Forest) → w.here ≡ trees → groups_of w ≡ [] → filter (contains at) (calls_left w) ≡ calls_around at trees

@@ -1,5 +1,5 @@
 -- In a scope of definitions without ids a piece is expanded as by its text's meaning.
-use Rattle.std.proofs.Common.{◌≡◌, ◌∙◌, ℕ, Bool, true, false, cond, List, [], ◌∷◌, refl, ap, map, sym, subst}
+use Rattle.std.proofs.Common.{◌≡◌, ◌∙◌, ℕ, Bool, true, false, cond, List, [], ◌∷◌, refl, ap, map, sym}
 use Rattle.std.specs.Prelude.{Option, Some, None, option_map}
 use Rattle.mbe.specs.Grammar.{Grammar}
 use Rattle.tt_data.specs.Forest.{Forest, map_spans}
@@ -11,7 +11,7 @@ use Rattle.tt_data.proofs.ForestLemmas.{map_spans-same}
 use Rattle.expander_model.specs.Changes.{Changes, fault_with, outcome_with, placed_with}
 use Rattle.expander_model.specs.Definitions.{Definition}
 use Rattle.expander_model.specs.Expansion.{Outcome, PlacedStep, World}
-use Rattle.expander_model.specs.Held.{Met, Numbered, anchored_definition, nearest_met, numbered_of, numbered_scope, numbered_world, unnumbered}
+use Rattle.expander_model.specs.Held.{Numbered, anchored_definition, nearest_met, numbered_of, numbered_scope, numbered_world, unnumbered}
 use Rattle.expander_model.specs.Limits.{expanded}
 use Rattle.expander_model.specs.Scoping.{Scoped, found_in, is_found, without_locals}
 use Rattle.expander_model.specs.World.{world}

@@ -1,5 +1,5 @@
 -- Trees from flat lists of tokens with other spans.
-use Rattle.std.proofs.Common.{◌≡◌, ℕ, List, [], ◌∷◌, ◌++◌, map, refl, ap, sym, ◌∙◌, append_assoc, append-nil}
+use Rattle.std.proofs.Common.{◌≡◌, List, [], ◌∷◌, ◌++◌, map, ap, sym, ◌∙◌, append_assoc, append-nil}
 use Rattle.tt.specs.Tops.{Top, tokens_of}
 use Rattle.tt_data.specs.Forest.{Forest, forest_of, preorder}
 use Rattle.tt_data.specs.declared.tree.TokenTree.{TokenTree}

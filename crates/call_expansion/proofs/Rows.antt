@@ -1,6 +1,6 @@
 -- The calls around bytes of `a!(b!(c) d)`, and which of them is answered.
 use Rattle.std.proofs.Common.{◌≡◌, ◌+◌, ℕ, List, [], ◌∷◌, refl}
-use Rattle.std.specs.Prelude.{None, Option, Some, codes}
+use Rattle.std.specs.Prelude.{None, Some, codes}
 use Rattle.tt_data.specs.Forest.{Forest, empty, leaf, group}
 use Rattle.tt_data.specs.Walk.{at_leaf}
 use Rattle.tt_data.specs.declared.delimiter.DelimiterKind.TheVariants.{Parenthesis}

@@ -1,5 +1,5 @@
 -- Definitions without ids enter a scope.
-use Rattle.std.proofs.Common.{◌≡◌, ◌∙◌, ℕ, List, [], ◌∷◌, ◌++◌, refl, ap, map, subst, sym}
+use Rattle.std.proofs.Common.{◌≡◌, ◌∙◌, List, [], ◌∷◌, ◌++◌, refl, ap, map, subst, sym}
 use Rattle.std.specs.Prelude.{Option, Some, None, unwrap_or}
 use Rattle.bridge.specs.RelativeSpans.{own_place}
 use Rattle.tt_data.specs.Forest.{Forest}

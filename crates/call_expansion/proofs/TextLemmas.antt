@@ -1,6 +1,6 @@
 -- What is said in the pieces of a text, piece by piece.
-use Rattle.std.proofs.Common.{◌≡◌, ◌∙◌, ℕ, Bool, true, false, List, [], ◌∷◌, refl, ap, sym, subst}
-use Rattle.std.specs.Prelude.{◌||◌, Option, Some, None, Result, Ok, Err, is_some, option_map}
+use Rattle.std.proofs.Common.{◌≡◌, ◌∙◌, ℕ, Bool, true, false, List, [], ◌∷◌, refl, ap, sym}
+use Rattle.std.specs.Prelude.{◌||◌, Option, Some, None, is_some}
 use Rattle.std.specs.List.{list_any}
 use Rattle.mbe.specs.Grammar.{Grammar}
 use Rattle.tt_data.specs.Forest.{Forest}
@@ -10,9 +10,7 @@ use Rattle.cfg_options.specs.Conditions.{or_else}
 use Rattle.expander_model.specs.Definitions.{Definition, definition_of}
 use Rattle.expander_model.specs.Expansion.{Outcome, PlacedStep}
 use Rattle.expander_model.specs.Held.{Numbered}
-use Rattle.bridge.specs.declared.reading.outcome.ReadFault.{ReadFault}
-use Rattle.expander_model.specs.Meaning.{Layers, Member, member, members_after, members_in, with_definition}
-use Rattle.expander_model.specs.Pieces.{cut, pieces, separated}
+use Rattle.expander_model.specs.Meaning.{Layers, Member, member, members_after, with_definition}
 use Rattle.expander_model.specs.declared.dialect.Dialect.{Dialect}
 use Rattle.expander_model.specs.declared.fault.FaultKind.{FaultKind}
 use Rattle.expander_scope.specs.ScopeTable.{expanded_under}
@@ -20,33 +18,11 @@ use Rattle.expander_scope.specs.declared.scope.Scope as table
 use Rattle.call_expansion.specs.Answers.{Answer, answer_among}
 use Rattle.call_expansion.specs.Around.{calls_around}
 use Rattle.call_expansion.specs.InScope.{HasInScope}
-use Rattle.call_expansion.specs.Texts.{HasTooManyIn, IsFoundIn, answer_in, bursts, first_answer, member_answer, text_layers}
-use Rattle.call_expansion.specs.declared.answer.Called.{Called}
-use Rattle.call_expansion.specs.declared.text_call.Found.TheVariants.{Unread, Nothing, Call}
+use Rattle.call_expansion.specs.Texts.{bursts, first_answer, member_answer, text_layers}
 use Rattle.call_expansion.specs.declared.around.CallPlace.{CallPlace}
-use Rattle.call_expansion.proofs.ExpansionLemmas.{Agrees, meant, scope_agrees}
+use Rattle.call_expansion.proofs.ExpansionLemmas.{meant, scope_agrees}
 
 -- ---- one piece
-
-nothing_among : (steps : List PlacedStep) (faults : List (FaultKind × Span)) (calls : List CallPlace) → calls ≡ [] → None ≡ answer_among steps faults calls
-nothing_among steps faults calls e = ap (answer_among steps faults) (sym e)
-
-module _ (layers : Layers) (depth at : ℕ) (before : List Definition) (piece : Forest) where
-  -- nothing is said in a definition
-  pub in_definition : is_some (definition_of piece) ≡ true → None ≡ member_answer at (member layers depth before piece (definition_of piece))
-  in_definition e = go (definition_of piece) e
-    where
-      go : (o : Option Definition) → is_some o ≡ true → None ≡ member_answer at (member layers depth before piece o)
-      go None e = cc
-      go (Some d) e = refl
-
-  -- nor where no call is
-  pub without_calls : (calls : List CallPlace) → calls ≡ [] → calls ≡ calls_around at piece → None ≡ member_answer at (member layers depth before piece (definition_of piece))
-  without_calls calls none are = go (definition_of piece)
-    where
-      go : (o : Option Definition) → None ≡ member_answer at (member layers depth before piece o)
-      go None = nothing_among (meant layers.world before depth piece).steps (meant layers.world before depth piece).faults (calls_around at piece) (sym are ∙ none)
-      go (Some d) = refl
 
 plain_is : (o : Option Definition) → is_some o ≡ false → o ≡ None
 plain_is None e = refl
@@ -130,25 +106,3 @@ module _ (layers : Layers) (depth at : ℕ) where
   pub left_none : (before : List Definition) (all : List Forest) (now : List Definition) (rest : List Forest) → rest ≡ [] → Left before all now rest
       → None ≡ first_answer at (members_after layers depth before all)
   left_none before all now rest e h = sym (ap (λ ps. first_answer at (members_after layers depth now ps)) e) ∙ h.answers
-
--- ---- a text
-
-module _ (layers : Layers) (depth at : ℕ) (initial : List Definition) (read : Result Forest ReadFault) where
-  pub unread : (fault : ReadFault) → read ≡ Err fault → IsFoundIn layers depth initial read at (Unread fault)
-  unread fault e = subst (λ (r : Result Forest ReadFault). IsFoundIn layers depth initial r at (Unread fault)) (sym e) refl
-
-  module _ (f trees : Forest) (is : read ≡ Ok f) (apart : trees ≡ separated f) where
-    members_are : members_after layers depth initial (cut trees) ≡ members_in layers depth initial f
-    members_are = ap (λ (t : Forest). members_after layers depth initial (cut t)) apart
-
-    pub found_call : (c : Called) → Some (answer_in c) ≡ first_answer at (members_after layers depth initial (cut trees)) → IsFoundIn layers depth initial read at (Call c)
-    found_call c e =
-        subst (λ (r : Result Forest ReadFault). IsFoundIn layers depth initial r at (Call c)) (sym is) (sym (e ∙ ap (first_answer at) members_are))
-
-    pub found_none : None ≡ first_answer at (members_after layers depth initial (cut trees)) → IsFoundIn layers depth initial read at Nothing
-    found_none e =
-        subst (λ (r : Result Forest ReadFault). IsFoundIn layers depth initial r at Nothing) (sym is) (sym (e ∙ ap (first_answer at) members_are))
-
-    pub found_too_many : list_any bursts (members_after layers depth initial (cut trees)) ≡ true → HasTooManyIn layers depth initial read
-    found_too_many e =
-        subst (λ (r : Result Forest ReadFault). HasTooManyIn layers depth initial r) (sym is) (sym (ap (list_any bursts) members_are) ∙ e)

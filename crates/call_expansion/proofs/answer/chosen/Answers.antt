@@ -1,4 +1,4 @@
-use Rattle.std.proofs.Common.{◌≡◌, ◌∙◌, ap, map, sym, true, false, rules}
+use Rattle.std.proofs.Common.{◌∙◌, map, sym}
 use Rattle.expander_scope.specs.Outcomes.{placed_of}
 use Rattle.call_expansion.specs.Answers.{chosen}
 use Rattle.call_expansion.proofs.AnswerLemmas.{chosen_here, chosen_last, chosen_later, or_nothing}

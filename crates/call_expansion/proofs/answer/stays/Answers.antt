@@ -1,4 +1,4 @@
-use Rattle.std.proofs.Common.{◌≡◌, ◌∙◌, ap, sym, true, false}
+use Rattle.std.proofs.Common.{◌∙◌, ap, sym}
 use Rattle.expander_scope.specs.Outcomes.{placed_of}
 use Rattle.expander_scope.specs.declared.outcome.Event.{Event}
 use Rattle.call_expansion.specs.Answers.{is_written}

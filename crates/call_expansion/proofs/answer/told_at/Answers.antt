@@ -1,6 +1,6 @@
-use Rattle.std.proofs.Common.{◌≡◌, ◌++◌, ◌∙◌, ap, sym, true, false}
+use Rattle.std.proofs.Common.{◌++◌, ap}
 use Rattle.call_expansion.specs.Answers.{told_at}
-use Rattle.call_expansion.proofs.AnswerLemmas.{told_all, told_elsewhere, told_here}
+use Rattle.call_expansion.proofs.AnswerLemmas.{told_all}
 use Rattle.call_expansion.proofs.answer.told_at.Goals as goal
 
 pub loop-fault-init : goal.loop-fault-init

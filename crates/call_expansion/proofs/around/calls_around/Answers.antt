@@ -1,4 +1,4 @@
-use Rattle.std.proofs.Common.{◌≡◌, ◌++◌, ◌∙◌, ap, true, false, rules}
+use Rattle.std.proofs.Common.{◌++◌, ◌∙◌, ap}
 use Rattle.std.specs.Prelude.{filter}
 use Rattle.call_expansion.specs.Around.{contains}
 use Rattle.call_expansion.specs.Passing.{calls_left}

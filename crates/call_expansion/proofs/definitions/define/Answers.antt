@@ -1,4 +1,4 @@
-use Rattle.std.proofs.Common.{◌≡◌, sym}
+use Rattle.std.proofs.Common.{sym}
 use Rattle.call_expansion.proofs.ScopeLemmas.{defined}
 use Rattle.call_expansion.proofs.definitions.define.Goals as goal
 

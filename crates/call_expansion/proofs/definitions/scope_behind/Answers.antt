@@ -1,6 +1,6 @@
 use Rattle.std.proofs.Common.{◌≡◌, ◌∙◌, ◌+◌, List, [], ap, subst, sym, take}
 use Rattle.tt_data.specs.Forest.{Forest}
-use Rattle.expander_model.specs.Definitions.{Definition, definition_of}
+use Rattle.expander_model.specs.Definitions.{definition_of}
 use Rattle.expander_model.specs.Meaning.{definitions_after, with_definition}
 use Rattle.expander_sources.specs.Imports.{import_piece, import_pieces}
 use Rattle.expander_sources.specs.declared.import.Import.{Import}

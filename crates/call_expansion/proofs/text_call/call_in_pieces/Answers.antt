@@ -1,6 +1,6 @@
-use Rattle.std.proofs.Common.{◌≡◌, ◌∙◌, ap}
+use Rattle.std.proofs.Common.{◌∙◌, ap}
 use Rattle.expander_model.specs.Definitions.{definition_of}
-use Rattle.expander_model.specs.Meaning.{Layers, with_definition}
+use Rattle.expander_model.specs.Meaning.{with_definition}
 use Rattle.expander_model.specs.Pieces.{cut}
 use Rattle.expander_scope.proofs.HandedLemmas.{handed}
 use Rattle.call_expansion.specs.Texts.{answer_in, text_layers}
