@@ -14,7 +14,6 @@ mod NameStackLemmas
 mod LocalLemmas
 mod ListLemmas
 mod SpendingLemmas
-mod ChargeLemmas
 mod ReplaceLemmas
 mod CallResultLemmas
 mod GoesLemmas

@@ -307,9 +307,13 @@ replace-returns-in_err-done-clause-tokens g t c = λ n counted e.
     let outside : c.args.outer ≡ None = limits_outside c.args.env.now.dialect.now c.args.outer (ap is_some (sym c.limits_at-limits.ensures) ∙ some) in
     let spent : Spends (limits_at c.args.env.now.dialect.now c.args.outer) c.args.made.now.left (sized 1 n) =
     subst (λ l. Spends l c.args.made.now.left (sized 1 n)) (left_outside c.args.env.now.dialect.now c.args.outer c.args.search.now.left (ap is_some outside)) counted in
-    let much = c.in_err-done.ensures.tokens (handed c.from_residual.result _ c.from_residual.ensures.1 e) in
-    (much.0, (subst (λ l. BurstsFirst l (notes_with n a.outcome.finds)) (sym (c.requires.left outside)) (bursts_none (notes_with n a.outcome.finds)),
-    bursts_more (limits_at c.args.env.now.dialect.now c.args.outer) c.args.made.now.left (sized 1 n) a.outcome.finds spent much.1))
+    let much = c.in_err-done.ensures.tokens (handed c.from_residual.result _ c.from_residual.ensures.1 e) in (
+      much.0,
+      (
+        subst (λ l. BurstsFirst l (notes_with n a.outcome.finds)) (sym (c.requires.left outside)) (bursts_none (notes_with n a.outcome.finds)),
+        bursts_more (limits_at c.args.env.now.dialect.now c.args.outer) c.args.made.now.left (sized 1 n) a.outcome.finds spent much.1,
+      ),
+    )
 
 pub replace-returns-then-not-done-clause-read : goal.replace-returns-then-not-done-clause-read
 replace-returns-then-not-done-clause-read g t c = c.take_back.ensures.read c.args.env.now.scope.now.edition c.in_ok-done.ensures.read
@@ -325,7 +329,7 @@ replace-returns-else-not-done-clause-fits g t c = λ n counted so.
     fits_own (limits_at c.args.env.now.dialect.now c.args.outer) c.args.made.now.left _ 1 n a.outcome.finds spent all.spends
 
 pub search_result-returns-clause-done : goal.search_result-returns-clause-done
-search_result-returns-clause-done g t c = 
+search_result-returns-clause-done g t c =
     let trees : c.iter.result ≡ c.args.made.now.given.inner = c.iter.ensures ∙ c.token_trees-trees.ensures in
     let mid : Search _ = with_left c.args.search.now c.args.made.now.left in
     subst (λ f. IfOk c.search_list.result (λ done. done ≡ true → (let b = list_under (g.G.FragmentGrammar.answer c.args.env.now.grammar.now) c.args.env.now.scope.now c.args.env.now.dialect.now (c.args.env.now.depth - 1) c.args.standing (Some c.args.at) c.args.search.now.locals f in
@@ -334,7 +338,7 @@ search_result-returns-clause-done g t c =
     Searched g.S.EventSink.has_taken mid c.search_list.new.search b b.outcome.finds))) c.deeper.ensures c.search_list.ensures.done)
 
 pub search_result-returns-clause-stops : goal.search_result-returns-clause-stops
-search_result-returns-clause-stops g t c = 
+search_result-returns-clause-stops g t c =
     let trees : c.iter.result ≡ c.args.made.now.given.inner = c.iter.ensures ∙ c.token_trees-trees.ensures in
     let mid : Search _ = with_left c.args.search.now c.args.made.now.left in
     subst (λ f. IfOk c.search_list.result (λ done. done ≡ false → Stops g.S.EventSink.has_taken mid c.search_list.new.search
@@ -343,7 +347,7 @@ search_result-returns-clause-stops g t c =
     (list_under (g.G.FragmentGrammar.answer env.grammar.now) env.scope.now env.dialect.now env.depth c.args.standing (Some c.args.at) c.args.search.now.locals c.iter.result).outcome.finds)) c.deeper.ensures c.search_list.ensures.stops)
 
 pub search_result-returns-clause-read : goal.search_result-returns-clause-read
-search_result-returns-clause-read g t c = 
+search_result-returns-clause-read g t c =
     subst (λ env. OnOk c.search_list.result (AreReadIn env.scope.now.edition c.search_list.new.search.locals)) c.deeper.ensures c.search_list.ensures.read
 
 pub search_result-returns-clause-tokens : goal.search_result-returns-clause-tokens
