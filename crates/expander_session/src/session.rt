@@ -318,6 +318,41 @@ impl<G: FragmentGrammar + Drop> Session<G> {
         read_source(self.alloc, text, tokens, &self.memory.sources, number, home)
     }
 
+    /// What decides what fragments are.
+    pub fn grammar(&self) -> &G
+        ensures { result.now ≡ self.now.grammar }
+    {
+        &self.grammar
+    }
+
+    /// The edition of all tokens of the text.
+    pub fn edition(&self) -> Edition
+        ensures { result ≡ self.now.edition }
+    {
+        self.edition
+    }
+
+    /// The dialect by which the text is expanded.
+    pub fn dialect(&self) -> &Dialect
+        ensures { result.now ≡ self.now.dialect }
+    {
+        &self.dialect
+    }
+
+    /// How many levels of calls are expanded.
+    pub fn depth(&self) -> u8
+        ensures { result ≡ self.now.depth }
+    {
+        self.depth
+    }
+
+    /// The definitions of other texts that the text is expanded after.
+    pub fn prelude(&self) -> &Prelude
+        ensures { result.now ≡ self.now.prelude }
+    {
+        &self.prelude
+    }
+
     /// The text.
     pub fn text(&self) -> &str
         ensures { result.now ≡ self.now.text }
