@@ -72,6 +72,7 @@ alone_world : (w : World Definition) → Changes itself anchored_definition (num
 alone_world w = record {
   broken = λ d. refl;
   fit = λ d a. ap (w.fit (anchored_definition d)) (map_spans-same a) ∙ trees-same (w.fit (anchored_definition d) a);
+  put_out = λ d a. ap (w.put_out (anchored_definition d)) (map_spans-same a);
   bursts = λ d a. ap (w.bursts (anchored_definition d)) (map_spans-same a);
 }
 
