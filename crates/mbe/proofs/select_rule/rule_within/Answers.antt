@@ -13,5 +13,5 @@ use Rattle.mbe.proofs.select_rule.rule_within.Goals as goal
 pub returns-clause-tree : goal.returns-clause-tree
 returns-clause-tree g c = λ mark marked.
     let so : filled is_name most_rounds mark (map_of c.in_ok-bindings.bindings) (items_of c.deref-2.result.now)
-        ≡ rule_fit is_name (g.G.FragmentGrammar.answer c.args.grammar.now) mark (rule_of c.args.rule.now) (forest c.args.argument) = search rules in
+    ≡ rule_fit is_name (g.G.FragmentGrammar.answer c.args.grammar.now) mark (rule_of c.args.rule.now) (forest c.args.argument) = search rules in
     subst (λ f. IfOk c.filled.result (λ o. IfSome o (λ t. t.given ≡ option_map (within c.args.bounds.top) f))) so (c.filled.ensures.tree mark marked)
