@@ -192,10 +192,11 @@ take_file() {
     [ "$path" = - ] || check_file "$path"
 }
 
-# Sets `path` to the file that a word names, and `place` to the line and column behind it, which `explain` takes.
+# Sets `path` to the file that a word names, and `place` to the line and column behind it, which `expand` and `explain`
+# take.
 split_place() {
     path=$1 place=
-    [ "${words[0]}" = explain ] || return 0
+    case ${words[0]} in expand | explain) ;; *) return 0 ;; esac
     [[ $1 =~ ^(.*)(:[0-9]+:[0-9]+)$ ]] || return 0
     path=${BASH_REMATCH[1]} place=${BASH_REMATCH[2]}
 }
