@@ -104,7 +104,7 @@ class Program:
     # What `expand` prints of the call at a place alone, laid out, and what it says of it.
     def call_at(self, text, at):
         line, column = text[:at].count("\n") + 2, at - text[:at].rfind("\n")
-        words = [self.path, "expand", "--layout", *self.options, f"-:{line}:{column}"]
+        words = [self.path, "expand", "--layout", *self.options, "--", f"-:{line}:{column}"]
         ran = subprocess.run(words, input=f"\n{text}".encode(), capture_output=True)
         told = ran.stderr.decode().splitlines()
         return ran.stdout.decode(), [it.split(": ", 1)[1] for it in told if it.startswith("line ")]

@@ -40,16 +40,20 @@ FindsAt s place None = NeedsTooMany (text_layers (answer s.grammar) s.edition s.
 abbrev pub IsLaidOut : (printed laid : List ℕ) → Type 0
 IsLaidOut printed laid = words_of laid ≡ words_of printed
 
--- an answer has the name of a macro, and what came of a call: nothing if the call stays
+-- the name of a macro, and what came of a call of it
+abbrev pub expansion_data : (name laid : List ℕ) → Data
+expansion_data name laid =
+    object (member (codes "expansion") (string laid) (member (codes "name") (string name) no_members))
+
+-- an answer shows that: nothing if the call stays
 abbrev pub ShowsTokens : Option Printed → Data → Type 0
-ShowsTokens (Some p) data = (name laid : List ℕ) × IsLaidOut (string_bytes p.text) laid
-    × (data ≡ object (member (codes "expansion") (string laid)
-    (member (codes "name") (string name) no_members)))
-ShowsTokens None data = data ≡ null
+ShowsTokens (Some p) told = (name laid : List ℕ) × IsLaidOut (string_bytes p.text) laid
+    × (told ≡ expansion_data name laid)
+ShowsTokens None told = told ≡ null
 
 abbrev pub ShowsExpansion : Option Found → Data → Type 0
-ShowsExpansion (Some (Call c)) data = ShowsTokens c.gives data
-ShowsExpansion _ data = data ≡ null
+ShowsExpansion (Some (Call c)) told = ShowsTokens c.gives told
+ShowsExpansion _ told = told ≡ null
 
 -- a text in a block of code, as Markdown has it
 abbrev pub code_block : List ℕ → List ℕ
@@ -73,27 +77,27 @@ hover_data text shown c =
     (member (codes "range") (range_data text c.place.range) no_members))
 
 abbrev pub ShowsHover : List ℕ → Option Found → Data → Type 0
-ShowsHover text (Some (Call c)) data =
-    (shown : List ℕ) × IsHoverText c.gives c.faults.items shown × (data ≡ hover_data text shown c)
-ShowsHover text _ data = data ≡ null
+ShowsHover text (Some (Call c)) told =
+    (shown : List ℕ) × IsHoverText c.gives c.faults.items shown × (told ≡ hover_data text shown c)
+ShowsHover text _ told = told ≡ null
 
 -- ---- all questions
 
 -- what is shown of what is found at a position
 abbrev pub ShowsFound : (Option Found → Data → Type 0) → State AnyGrammar → Position → Data → Type 0
-ShowsFound Shows s place data = (found : Option Found) × FindsAt s place found × Shows found data
+ShowsFound Shows s place told = (found : Option Found) × FindsAt s place found × Shows found told
 
 -- an answer to a question about a text; that a call's definition is found is not said
 abbrev pub Answers : Question → State AnyGrammar → Data → Type 0
-Answers (Hover place) s data = ShowsFound (ShowsHover s.text) s place data
-Answers (Expansion place) s data = ShowsFound ShowsExpansion s place data
-Answers Symbols s data = ListsSymbols s.text data
-Answers (Definition place) s data = ⊤
+Answers (Hover place) s told = ShowsFound (ShowsHover s.text) s place told
+Answers (Expansion place) s told = ShowsFound ShowsExpansion s place told
+Answers Symbols s told = ListsSymbols s.text told
+Answers (Definition place) s told = ⊤
 
 -- an answer about the open text of this name, or none where none has it. A session's text has less
 -- than 2^32 bytes
 abbrev pub IsAnswered : Question → List ℕ → List OpenText → Option Data → Type 0
 IsAnswered question uri texts None = HaveNone uri texts
-IsAnswered question uri texts (Some data) = (t : OpenText) × Contains texts t
+IsAnswered question uri texts (Some told) = (t : OpenText) × Contains texts t
     × (is_named uri t ≡ true)
-    × (length t.session.text < 2 ^ 32 → Answers question t.session data)
+    × (length t.session.text < 2 ^ 32 → Answers question t.session told)

@@ -1,9 +1,10 @@
 //! What comes of the call at a place of a text.
-ghost use Rattle.std.specs.Prelude.{◌≡◌, ◌<◌, ◌^◌, ◌×◌, IfOk, List, length, option_map, string_bytes, ℕ};
+ghost use Rattle.std.specs.Prelude.{◌≡◌, ◌<◌, ◌^◌, IfOk, List, length, string_bytes, ℕ};
 ghost use Rattle.serde_json.specs.View.{view};
 ghost use Rattle.session_workspace.specs.Questions.{FindsAt, IsHoverText, IsLaidOut};
 ghost use Rattle.session_workspace.specs.Questions.{ShowsExpansion, ShowsFound, ShowsHover};
-ghost use Rattle.session_workspace.specs.Questions.{ShowsTokens, code_block, hover_data};
+ghost use Rattle.session_workspace.specs.Questions.{ShowsTokens, code_block, expansion_data};
+ghost use Rattle.session_workspace.specs.Questions.{hover_data};
 
 use crate::ranges::{START, range_value};
 use any_grammar::AnyGrammar;
@@ -50,6 +51,12 @@ fn name_in(text: &str, name: TextRange) -> &str {
     text.get(name.start as usize..name.end as usize).unwrap_or("")
 }
 
+fn expansion_data(alloc: Global, name: &str, laid: String) -> Result<Value, AllocError>
+    ensures { IfOk result (λ v. view v ≡ expansion_data name.now (string_bytes laid)) }
+{
+    json!(in alloc; {"name": name, "expansion": laid})
+}
+
 // What came of a call of this macro, if it does not stay.
 fn tokens_value(alloc: Global, name: &str, gives: &Option<Printed>) -> Result<Value, AllocError>
     ensures { IfOk result (λ v. ShowsTokens gives.now (view v)) }
@@ -58,7 +65,7 @@ fn tokens_value(alloc: Global, name: &str, gives: &Option<Printed>) -> Result<Va
         return Ok(Value::Null);
     };
     let laid = layout_text(alloc, printed.text.as_str())?;
-    json!(in alloc; {"name": name, "expansion": laid})
+    expansion_data(alloc, name, laid)
 }
 
 fn expansion_value(alloc: Global, text: &str, found: &Option<Found>) -> Result<Value, AllocError>

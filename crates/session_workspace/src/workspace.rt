@@ -215,8 +215,9 @@ impl<S: Setup> Workspace for SessionWorkspace<S> {
     }
 
     fn ask(&mut self, question: Question, uri: &str) -> Result<Option<Value>, AllocError>
-        ensures { IfOk result (λ answer. IsAnswered question uri.now self.old.texts.items
-            (option_map view answer)) }
+        ensures same { documents_of self.new.texts.items ≡ documents_of self.old.texts.items }
+        ensures answered { IfOk result (λ answer. IsAnswered question uri.now
+            self.old.texts.items (option_map view answer)) }
     {
         let Some(i) = find(self.texts.as_slice(), uri) else {
             return Ok(None);

@@ -1,0 +1,20 @@
+use Rattle.std.proofs.Common.{◌≡◌, ◌<◌, ◌^◌, length, subst, List}
+use Rattle.serde_json.specs.View.{view}
+use Rattle.session_workspace.specs.OpenTexts.{IsFirst}
+use Rattle.session_workspace.specs.Questions.{Answers}
+use Rattle.session_workspace.specs.declared.open_text.OpenText.{OpenText}
+use Rattle.session_workspace.proofs.TextLemmas.{first_among, text_at}
+use Rattle.session_workspace.proofs.workspace.SessionWorkspaceWorkspace.ask.Goals as goal
+
+pub returns-clause-answered : goal.returns-clause-answered
+returns-clause-answered g c =
+    let first : IsFirst c.args.uri.now c.args.self.now.texts.items c.in-Some.i =
+    subst (λ (ts : List OpenText). IsFirst c.args.uri.now ts c.in-Some.i)
+    c.as_slice.ensures.value c.in-Some.ensures in
+    let taken : c.index.result.now ≡ first.text =
+    text_at c.args.self.now.texts.items c.in-Some.i c.index.result.now c.args.uri.now first
+    first.within c.index.ensures in
+    (first.text, first_among c.args.uri.now c.args.self.now.texts.items c.in-Some.i first,
+    first.named, subst (λ (t : OpenText). length t.session.text < 2 ^ 32
+    → Answers c.args.question t.session (view c.in_ok-answer.answer)) taken
+    c.in_ok-answer.ensures)
