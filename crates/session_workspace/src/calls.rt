@@ -48,7 +48,8 @@ fn found_at(
 
 // The bytes of a name.
 fn name_in(text: &str, name: TextRange) -> &str {
-    text.get(name.start as usize..name.end as usize).unwrap_or("")
+    text.get(name.start as usize..name.end as usize)
+        .unwrap_or("")
 }
 
 fn expansion_data(alloc: Global, name: &str, laid: String) -> Result<Value, AllocError>

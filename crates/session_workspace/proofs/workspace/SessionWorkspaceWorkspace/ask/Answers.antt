@@ -13,8 +13,11 @@ returns-clause-answered g c =
     c.as_slice.ensures.value c.in-Some.ensures in
     let taken : c.index.result.now ≡ first.text =
     text_at c.args.self.now.texts.items c.in-Some.i c.index.result.now c.args.uri.now first
-    first.within c.index.ensures in
-    (first.text, first_among c.args.uri.now c.args.self.now.texts.items c.in-Some.i first,
-    first.named, subst (λ (t : OpenText). length t.session.text < 2 ^ 32
-    → Answers c.args.question t.session (view c.in_ok-answer.answer)) taken
-    c.in_ok-answer.ensures)
+    first.within c.index.ensures in (
+      first.text,
+      first_among c.args.uri.now c.args.self.now.texts.items c.in-Some.i first,
+      first.named,
+      subst (λ (t : OpenText). length t.session.text < 2 ^ 32
+          → Answers c.args.question t.session (view c.in_ok-answer.answer)) taken
+          c.in_ok-answer.ensures,
+    )
