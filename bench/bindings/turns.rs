@@ -1,15 +1,22 @@
 //! The program bench/bindings/turns.c through the crate for Rust: the same input, the same calls, the
-//! same output. It copies the printed text out of each answer, too.
+//! same output. Each answer copies the printed text out, too; its tokens are counted at the end.
 use filgordd::{Edition, Error, Grammar, Reply, Session};
 use std::io::Read;
 
-fn told(session: &mut Session) -> Result<(usize, usize), Error> {
+fn expanded(session: &mut Session) -> Result<usize, Error> {
     match session.expand()? {
         Reply::Read(found) => {
             std::hint::black_box(found.printed().len());
-            Ok((found.tokens()?.len(), found.expanded()))
+            Ok(found.expanded())
         }
-        Reply::Unread(_) => Ok((0, 0)),
+        Reply::Unread(_) => Ok(0),
+    }
+}
+
+fn tokens(session: &mut Session) -> Result<usize, Error> {
+    match session.expand()? {
+        Reply::Read(found) => Ok(found.tokens()?.len()),
+        Reply::Unread(_) => Ok(0),
     }
 }
 
@@ -26,16 +33,16 @@ fn main() -> Result<(), Box<dyn std::error::Error>> {
     let (turns, at): (usize, usize) = (turns.parse()?, at.parse()?);
     let word = if word == "+" { "\n" } else { word };
     let mut session = open(text)?;
-    let mut last = told(&mut session)?;
+    let mut last = expanded(&mut session)?;
     for turn in 0..turns {
         if what == "s" {
-            last = told(&mut open(text)?)?;
+            last = expanded(&mut open(text)?)?;
         } else {
             let (end, new) = if turn % 2 == 1 { (at + word.len(), "") } else { (at, word) };
             session.edit(at..end, new)?;
-            last = told(&mut session)?;
+            last = expanded(&mut session)?;
         }
     }
-    println!("{} {}", last.0, last.1);
+    println!("{} {last}", tokens(&mut session)?);
     Ok(())
 }
