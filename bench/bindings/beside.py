@@ -1,42 +1,42 @@
 """What a session through the crate for Rust costs beside the library: beside.py C_PROGRAM RUST_PROGRAM
 
-Both programs make the same turns over 1 MB of functions and calls: they open the text and expand it,
-and they edit it and expand it. Prints the least processor time of seven runs of each, less that of a
-run without turns, and their ratio. The status is 1 where a ratio is more than 1.1, or they tell
-different things."""
+Both programs make the same turns over 100 KB of functions and calls: they open the text and expand it,
+and they edit it and expand it; through the crate the printed text is copied out of each answer, too.
+Prints the instructions of a turn of each, by callgrind, and their ratio. The status is 1 where a ratio
+is more than 1.2, or they tell different things."""
 
-import resource
+import re
 import subprocess
 import sys
 
 sys.dont_write_bytecode = True
 from texts import text_of  # noqa: E402
 
-RUNS = 7
-ROWS = {"opened": ("s", 5), "edited": ("e", 40)}
+TURNS = 4
+KINDS = {"opened": "s", "edited": "e"}
+CALLGRIND = ["valgrind", "--tool=callgrind", "--callgrind-out-file=/dev/null"]
 
 
-def taken(program, kind, turns, text):
-    before = resource.getrusage(resource.RUSAGE_CHILDREN)
+# The instructions of a program over so many turns, and what it tells.
+def counted(program, kind, turns, text):
     words = f"{kind} {turns} 0 +\n{text}".encode()
-    told = subprocess.run([program], input=words, stdout=subprocess.PIPE, check=True).stdout
-    after = resource.getrusage(resource.RUSAGE_CHILDREN)
-    return after.ru_utime + after.ru_stime - before.ru_utime - before.ru_stime, told
+    ran = subprocess.run([*CALLGRIND, program], input=words, capture_output=True, check=True)
+    return int(re.search(rb"Collected : (\d+)", ran.stderr)[1]), ran.stdout
 
 
-# The least time of turns of a kind, and what the program tells at last.
-def least(program, kind, turns, text):
-    runs = [taken(program, kind, turns, text) for _ in range(RUNS)]
-    return min(time for time, _told in runs) - min(taken(program, kind, 0, text)[0] for _ in range(RUNS)), runs[0][1]
+# The instructions of a turn, and what the program tells at last.
+def of_turn(program, kind, text):
+    many, told = counted(program, kind, TURNS, text)
+    return (many - counted(program, kind, 0, text)[0]) // TURNS, told
 
 
 def main():
-    text, failed = text_of(1_000_000), False
-    for name, (kind, turns) in ROWS.items():
-        (library, told), (crate, same) = (least(it, kind, turns, text) for it in sys.argv[1:3])
-        failed |= crate > 1.1 * library or told != same
+    text, failed = text_of(100_000), False
+    for name, kind in KINDS.items():
+        (library, told), (crate, same) = (of_turn(it, kind, text) for it in sys.argv[1:3])
+        failed |= crate > 1.2 * library or told != same
         differs = "" if told == same else ", and they tell different things"
-        print(f"{name}: the library {library:.3f} s, the crate {crate:.3f} s, {crate / library:.2f} times{differs}")
+        print(f"{name}: the library {library}, the crate {crate}, {crate / library:.2f} times{differs}")
     sys.exit(failed)
 
 
