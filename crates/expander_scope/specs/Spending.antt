@@ -1,5 +1,5 @@
--- What is left of the limits of an outermost call while it is expanded, and what a search gives that
--- stops where one is passed.
+-- What is left of the limits of an outermost call while it is expanded, and what a search gives
+-- that stops where one is passed.
 use Rattle.std.specs.Prelude.{◌≡◌, ℕ, ◌-◌, Bool, true, ◌||◌, List, [], ◌∷◌, ◌++◌, map, nat_lt, Option, Some, None, option_map, if◌then◌else◌}
 use Rattle.tt_data.specs.declared.span.Span.{Span}
 use Rattle.expander_model.specs.Definitions.{Definition}

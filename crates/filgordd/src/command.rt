@@ -116,9 +116,7 @@ fn diagnostics<'a>(alloc: Global) -> Arg<'a>
         .value_name("WHICH")
         .value_parser(DIAGNOSTICS.as_slice())
         .default_value("likely")
-        .help(
-            "Which faults the editor is sent: likely ones are told of calls that rustc would expand",
-        )
+        .help("Which faults the editor is sent; likely are those of calls that rustc would expand")
 }
 
 fn library<'a>(alloc: Global) -> Arg<'a>

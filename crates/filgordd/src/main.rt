@@ -1,5 +1,5 @@
-//! The program `filgordd`: it expands the macros of a text or of a call, explains the text's faults,
-//! shows the expansion as a page, or answers a script of edits and expansions, or an editor.
+//! The program `filgordd`: it expands the macros of a text or of a call, explains the faults of a
+//! text, shows the expansion as a page, or answers a script of edits and expansions, or an editor.
 #![tactic(auto)]
 
 mod call;

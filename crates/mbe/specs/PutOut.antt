@@ -1,5 +1,5 @@
--- How many tokens the rules put out for a call: those that are tried, up to the first that fits. What
--- a transcriber puts out before a fault counts. (Of this project.)
+-- How many tokens the rules put out for a call: those that are tried, up to the first that fits.
+-- What a transcriber puts out before a fault counts. (Of this project.)
 use Rattle.std.specs.Prelude.{ℕ, ◌+◌, ◌-◌, Bool, true, false, nat_lt, List, [], ◌∷◌, Option, Some, None, if◌then◌else◌}
 use Rattle.tt_data.specs.Forest.{Forest}
 use Rattle.tt_data.specs.declared.span.Span.{Span}

@@ -6,8 +6,8 @@ use Rattle.lsp_server.specs.declared.phase.Phase.TheVariants.{New}
 use Rattle.session_workspace.specs.OpenTexts.{documents_of}
 use Rattle.session_workspace.specs.declared.workspace.SessionWorkspace.{SessionWorkspace}
 
--- a client is served from where it has not asked to initialize and no text is open, over a workspace
--- whose texts are those of its sessions; and whether it asked to shut down before the end
+-- a client is served from where it has not asked to initialize and no text is open, over a
+-- workspace whose texts are those of its sessions; and whether it asked to shut down before the end
 pub record ServesTexts (S : Type 0) (asked : Bool) (comes goes : List ℕ → Type 0) : Type 0 where
   pub first : SessionWorkspace S
   pub none_open : documents_of first.texts.items ≡ []

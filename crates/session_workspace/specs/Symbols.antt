@@ -11,8 +11,8 @@ use Rattle.expander_sources.specs.Sources.{range_of}
 use Rattle.tt_data.specs.Forest.{Forest}
 use Rattle.session_workspace.specs.Ranges.{range_data}
 
--- a definition whose bytes and whose name are at these ranges: its name, what it is written with, 12
--- for a function, and the ranges
+-- a definition whose bytes and whose name are at these ranges: its name, what it is written with,
+-- 12 for a function, and the ranges
 abbrev pub symbol_at : (all name : Data) → Definition → Data
 symbol_at all name d =
     object (member (codes "detail")

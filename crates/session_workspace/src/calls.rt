@@ -147,8 +147,8 @@ pub(crate) fn expansion_at(
     expansion_value(alloc, session.text(), &found)
 }
 
-/// What is shown of the call at a place of a session's text: what it expands to, laid out, or why it
-/// stays. Null if no call is there.
+/// What is shown of the call at a place of a session's text: what it expands to, laid out, or why
+/// it stays. Null if no call is there.
 pub(crate) fn hover_at(
     alloc: Global,
     session: &Session<AnyGrammar>,

@@ -1,5 +1,5 @@
 //! A run of the server over a workspace of sessions.
-ghost use Rattle.std.specs.Prelude.{◌≡◌, IfNone, IfOk, Ok, true};
+ghost use Rattle.std.specs.Prelude.{◌≡◌, ◌≢◌, IfOk, MatchOption, Ok, true};
 ghost use Rattle.std.specs.Io.KnownBytes.{Appends, Consumes};
 ghost use Rattle.session_workspace.specs.Serving.{ServesTexts};
 
@@ -11,8 +11,8 @@ use std::io::{Read, Write};
 
 /// Serves a client of a language server, whose texts are expanded by a setup: reads frames, and
 /// writes the messages that go for each, until the client tells the server to exit, or nothing more
-/// comes. Answers whether the client asked to shut down before. No text is open at first. (LSP 3.17,
-/// "Lifecycle Messages".)
+/// comes. Answers whether the client asked to shut down before. No text is open at first.
+/// (LSP 3.17, "Lifecycle Messages".)
 ///
 /// # Errors
 ///
@@ -33,10 +33,10 @@ pub fn serve_texts<R: Read, W: Write, S: Setup + Drop>(
     Ok(asked)
 }
 
-/// Why a run did not end as its client asked, in words: `None` only if it asked to shut down before
-/// the end.
+/// Why a run did not end as its client asked, in words: `None` if it asked to shut down before the
+/// end, and only then.
 pub fn end_words(end: Result<bool, Stop>) -> Option<&'static str>
-    ensures { IfNone result (end ≡ Ok true) }
+    ensures { MatchOption result (end ≡ Ok true) (λ words. end ≢ Ok true) }
 {
     match end {
         Ok(true) => None,
