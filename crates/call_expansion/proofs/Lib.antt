@@ -6,4 +6,5 @@ mod MovedLemmas
 mod ScopeLemmas
 mod ExpansionLemmas
 mod TextLemmas
+mod LastLemmas
 mod Rows

@@ -1,5 +1,5 @@
 -- What is found at a byte of a text: by the text's meaning. (Of this project.)
-use Rattle.std.specs.Prelude.{◌≡◌, ◌⊎◌, ℕ, Bool, true, false, List, [], ◌∷◌, Option, Some, None, option_map, Result, Ok, Err}
+use Rattle.std.specs.Prelude.{◌≡◌, ◌⊎◌, ℕ, Bool, true, false, if◌then◌else◌, leb, List, [], ◌∷◌, Option, Some, None, option_and_then, option_map, Result, Ok, Err}
 use Rattle.std.specs.List.{list_any}
 use Rattle.tt_data.specs.Forest.{Forest}
 use Rattle.tt_data.specs.declared.edition.Edition.{Edition}
@@ -11,6 +11,7 @@ use Rattle.cfg_options.specs.Conditions.{or_else}
 use Rattle.mbe.specs.Grammar.{Grammar}
 use Rattle.expander_model.specs.Definitions.{Definition}
 use Rattle.expander_model.specs.Meaning.{Layers, Member, plain, defining, members_in}
+use Rattle.expander_model.specs.Pieces.{first_start}
 use Rattle.expander_model.specs.Printing.{spelling_before}
 use Rattle.expander_model.specs.World.{world}
 use Rattle.expander_model.specs.declared.dialect.Dialect.{Dialect}
@@ -38,6 +39,20 @@ abbrev pub first_answer : ℕ → List Member → Option Answer
 first_answer at [] = None
 first_answer at (m ∷ ms) = or_else (member_answer at m) (first_answer at ms)
 
+-- where a piece begins
+abbrev pub begin_of : Member → ℕ
+begin_of (plain piece o) = first_start piece
+begin_of (defining d) = first_start d.piece
+
+-- the last of these pieces that begins at or before a byte
+abbrev pub last_at : ℕ → List Member → Option Member
+last_at at [] = None
+last_at at (m ∷ ms) = or_else (last_at at ms) (if leb (begin_of m) at then Some m else None)
+
+-- what is said of a call around a byte in that piece
+abbrev pub last_answer : ℕ → List Member → Option Answer
+last_answer at ms = option_and_then (member_answer at) (last_at at ms)
+
 -- a value of the code as what is said of a call
 abbrev pub answer_in : Called → Answer
 answer_in c = record {
@@ -63,6 +78,12 @@ module _ (layers : Layers) (depth : ℕ) (initial : List Definition) where
   -- the same of a text
   abbrev pub IsFound : List ℕ → ℕ → Found → Type 0
   IsFound text at found = IsFoundIn (layers.read text) at found
+
+  -- this is said of a call around a byte of a text that is read so, in the last piece that begins
+  -- at or before the byte
+  abbrev pub answer_near : Result Forest ReadFault → ℕ → Option Answer
+  answer_near (Err fault) at = None
+  answer_near (Ok f) at = last_answer at (members_in layers depth initial f)
 
   -- it has such a call, where it is read so
   abbrev pub HasTooManyIn : Result Forest ReadFault → Type 0

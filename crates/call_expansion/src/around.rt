@@ -34,8 +34,8 @@ fn end_of_group(trees: &TtIter<'_>) -> u32
     }
 }
 
-// Where the call is written that the trees begin with.
-fn place_of(trees: &TtIter<'_>, call: &Call<'_>) -> CallPlace
+/// Where the call is written that the trees begin with.
+pub fn place_of(trees: &TtIter<'_>, call: &Call<'_>) -> CallPlace
     requires { call_at trees.now ≡ Some call.now }
     ensures { calls_in (marked trees.now) ≡ result ∷ calls_in (marked call.now.from_group) }
 {
@@ -48,8 +48,8 @@ fn place_of(trees: &TtIter<'_>, call: &Call<'_>) -> CallPlace
     }
 }
 
-// Whether the bytes of a call contain this one.
-fn contains(at: u32, call: &CallPlace) -> bool
+/// Whether the bytes of a call contain this one.
+pub fn contains(at: u32, call: &CallPlace) -> bool
     ensures { result ≡ contains at call.now }
 {
     call.range.start <= at && at < call.range.end

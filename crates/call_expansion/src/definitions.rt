@@ -55,7 +55,7 @@ fn enter(
 }
 
 /// Adds the definition that a piece is, if it is one. Out of memory is the only error.
-pub(crate) fn define(
+pub fn define(
     alloc: Global,
     dialect: &Dialect,
     scope: &mut Scope,
@@ -87,7 +87,7 @@ fn tree_of_import(alloc: Global, import: &Import) -> Result<TopSubtree, TtFault>
 
 /// The scope behind a prelude, all of whose identifiers have this edition. Out of memory is the
 /// only error.
-pub(crate) fn scope_behind(
+pub fn scope_behind(
     alloc: Global,
     edition: Edition,
     dialect: &Dialect,

@@ -4,6 +4,7 @@
 
 pub mod answer;
 pub mod around;
-mod definitions;
+pub mod definitions;
 mod moved;
+pub mod piece_call;
 pub mod text_call;

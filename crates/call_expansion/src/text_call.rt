@@ -55,9 +55,9 @@ pub enum Found {
     Call(Called),
 }
 
-// A tree of a piece. It is a part of a tree, so it is not too large: out of memory is the only
-// error.
-fn tree_of(alloc: Global, piece: &TtIter<'_>) -> Result<TopSubtree, TtFault>
+/// A tree of these trees, in no brackets. Out of memory is its only error: they are a part of a
+/// tree, so they are not too many.
+pub fn tree_of(alloc: Global, piece: &TtIter<'_>) -> Result<TopSubtree, TtFault>
     ensures tree { IfOk result (λ t. t.inner ≡ piece.now) }
     ensures memory { IsOkUnless result fault.Memory }
 {
@@ -99,8 +99,8 @@ fn call_among<G: FragmentGrammar>(
     answer_among(alloc, &expanded, calls)
 }
 
-// What is said of a call around a byte in a piece, in the scope of the definitions before it.
-fn call_in_piece<G: FragmentGrammar>(
+/// What is said of a call around a byte in a piece, in the scope of the definitions before it.
+pub(crate) fn call_in_piece<G: FragmentGrammar>(
     alloc: Global,
     by: &CallOptions<'_, G>,
     scope: &Scope,

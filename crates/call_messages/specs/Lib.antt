@@ -1,3 +1,8 @@
 -- the parts of a message about a range of a text, and what is added about a call
 pub mod Plain
 pub mod Unfits
+-- how the rules of a call's definition take its argument; where they stop, and where what they want
+-- stands
+pub mod Knowns
+pub mod Units
+pub mod Places

@@ -1,4 +1,8 @@
 //! Where in a definition stands what its rule wants.
+ghost use Rattle.std.specs.Prelude.{◌≡◌, IfOk, drop};
+ghost use Rattle.call_messages.specs.Places.{between, bytes_within, op_range, puncts_range};
+ghost use Rattle.call_messages.specs.Places.{separator_range, variable_range, wanted_range};
+
 use crate::source::{Source, within};
 use mbe_explain::Wanted;
 use mbe_rules::{Op, Separator};
@@ -10,7 +14,9 @@ use tt_data::{Ident, Punct, Span, TextRange};
 const MOST: usize = 8;
 
 // From the beginning of one token to the end of another.
-fn between(first: Span, last: Span) -> TextRange {
+fn between(first: Span, last: Span) -> TextRange
+    ensures { result ≡ between first last }
+{
     TextRange {
         start: first.range.start,
         end: last.range.end,
@@ -18,33 +24,62 @@ fn between(first: Span, last: Span) -> TextRange {
 }
 
 // The range of puncts, if there is one.
-fn of_puncts(puncts: &[Punct]) -> Option<TextRange> {
+fn of_puncts(puncts: &[Punct]) -> Option<TextRange>
+    ensures { result ≡ puncts_range puncts.now }
+{
     Some(between(puncts.first()?.span, puncts.last()?.span))
 }
 
 // The range of a lifetime.
-fn of_lifetime(quote: &Punct, name: &Ident) -> TextRange {
+fn of_lifetime(quote: &Punct, name: &Ident) -> TextRange
+    ensures { result ≡ between quote.now.span name.now.span }
+{
     between(quote.span, name.span)
 }
 
-// The range of a metavariable with its kind, if the text has it as it is told; else that of its
-// `$`. What is told has a mark before and after.
-fn of_variable(text: &str, dollar: TextRange, told: &str) -> TextRange {
-    let length = told.len().saturating_sub(2);
+// The bytes behind the first `start`.
+fn bytes_behind(text: &[u8], start: usize) -> &[u8]
+    ensures { result.now ≡ drop start text.now }
+{
+    if start < text.len() {
+        &text[start..]
+    } else {
+        &text[text.len()..]
+    }
+}
+
+// The bytes of a text without the first and the last one.
+fn bytes_within(text: &[u8]) -> &[u8]
+    ensures { result.now ≡ bytes_within text.now }
+{
+    if text.len() < 2 {
+        return &text[text.len()..];
+    }
+    &text[1..text.len() - 1]
+}
+
+// The range of a metavariable with its kind, if the text has it where its `$` is; else that of its
+// `$`.
+fn of_variable(text: &str, dollar: TextRange, written: &[u8]) -> TextRange
+    ensures { result ≡ variable_range text.now dollar written.now }
+{
     let start = dollar.start as usize;
-    let written = text.as_bytes().get(start..start.saturating_add(length));
-    let wanted = told.as_bytes().get(1..length.saturating_add(1));
-    match u32::try_from(length) {
-        Ok(length) if written.is_some() && written == wanted => TextRange {
+    if !bytes_behind(text.as_bytes(), start).starts_with(written) {
+        return dollar;
+    }
+    match u32::try_from(start.saturating_add(written.len())) {
+        Ok(end) => TextRange {
             start: dollar.start,
-            end: dollar.start.saturating_add(length),
+            end,
         },
-        _ => dollar,
+        Err(_) => dollar,
     }
 }
 
 // The range of an op. A metavariable's is that of its `$`.
-fn of_op(op: &Op) -> Option<TextRange> {
+fn of_op(op: &Op) -> Option<TextRange>
+    ensures { result ≡ op_range op.now }
+{
     match op {
         Op::Var { id, .. } => Some(id.range),
         Op::Literal(literal) => Some(literal.span().range),
@@ -57,7 +92,9 @@ fn of_op(op: &Op) -> Option<TextRange> {
 }
 
 // The range of a separator.
-fn of_separator(separator: &Separator) -> Option<TextRange> {
+fn of_separator(separator: &Separator) -> Option<TextRange>
+    ensures { result ≡ separator_range separator.now }
+{
     match separator {
         Separator::Literal(literal) => Some(literal.span().range),
         Separator::Ident(ident) => Some(ident.span.range),
@@ -66,16 +103,24 @@ fn of_separator(separator: &Separator) -> Option<TextRange> {
     }
 }
 
-/// Where in the text stands what is wanted, if anywhere.
-pub(crate) fn range_of(
+/// Where in the text of a definition stands what a rule of it wants; a group's opening bracket.
+/// `None` of an end.
+///
+/// # Errors
+///
+/// `AllocError` if memory is refused.
+pub fn wanted_range(
     alloc: Global,
     text: &str,
     wanted: &Wanted<'_>,
-) -> Result<Option<TextRange>, AllocError> {
+) -> Result<Option<TextRange>, AllocError>
+    ensures { IfOk result (λ range. range ≡ wanted_range text.now wanted.now) }
+{
     match wanted {
         Wanted::Op(Op::Var { id, .. }) => {
             let told = format!(in alloc; "{wanted}")?;
-            Ok(Some(of_variable(text, id.range, told.as_str())))
+            let written = bytes_within(told.as_bytes());
+            Ok(Some(of_variable(text, id.range, written)))
         }
         Wanted::Op(op) => Ok(of_op(op)),
         Wanted::Separator(separator) => Ok(of_separator(separator)),
@@ -105,7 +150,7 @@ pub(crate) fn ranges_of(
         if ranges.len() >= MOST {
             break;
         }
-        if let Some(range) = range_of(alloc, text, want)? {
+        if let Some(range) = wanted_range(alloc, text, want)? {
             add(&mut ranges, range)?;
         }
     }

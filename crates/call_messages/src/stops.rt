@@ -1,10 +1,10 @@
 //! How a rule stops, in words.
 use crate::source::Source;
+use crate::units::unit_range;
 use crate::words::Wants;
 use mbe_explain::{RuleStop, StopKind};
 use source_snippet::{column_in, line_at, line_number};
 use std::alloc::{AllocError, Global};
-use tt::TtIter;
 use tt_data::TextRange;
 
 // How many bytes of a token are shown in a note.
@@ -13,47 +13,6 @@ const MOST: usize = 40;
 // The number of a rule, from 1.
 pub(crate) fn number_of(stop: &RuleStop<'_>) -> usize {
     stop.index.saturating_add(1)
-}
-
-// How many trees the unit has that a list begins with: a lifetime two, a glued operator its puncts.
-fn unit_trees(trees: &TtIter<'_>) -> usize {
-    if let Some((quote, rest)) = trees.first_punct() {
-        if quote.char == '\'' && rest.lent_ident().is_some() {
-            return 2;
-        }
-    }
-    trees.glued_count()
-}
-
-// The trees after the first one.
-fn after_first<'a>(trees: &TtIter<'a>) -> Option<TtIter<'a>> {
-    if let Some((_leaf, rest)) = trees.lent_leaf() {
-        return Some(rest);
-    }
-    let (_brackets, _inner, rest) = trees.first_group()?;
-    Some(rest)
-}
-
-// Where the last tree of the unit begins that a list begins with, and ends.
-fn last_of_unit(trees: &TtIter<'_>) -> Option<TextRange> {
-    let mut rest = trees.copied();
-    for _ in 1..unit_trees(trees) {
-        rest = after_first(&rest)?;
-    }
-    Some(rest.next_span()?.range)
-}
-
-/// The range of the unit at which a rule stops: from its first token to the end of its last one.
-/// `None` at the end of the argument.
-pub(crate) fn range_of(stop: &RuleStop<'_>) -> Option<TextRange> {
-    let first = stop.stop.at?.range;
-    match last_of_unit(stop.stop.place.rest()) {
-        Some(last) if first.start <= last.end => Some(TextRange {
-            start: first.start,
-            end: last.end,
-        }),
-        _ => Some(first),
-    }
 }
 
 // The bytes of a token, if they are few and between characters.
@@ -72,7 +31,7 @@ fn written<'a>(text: &'a str, range: TextRange) -> Option<&'a str> {
 
 // The token at which a rule stops, if it can be shown.
 fn token_of<'a>(text: &'a str, stop: &RuleStop<'_>) -> Option<&'a str> {
-    written(text, range_of(stop)?)
+    written(text, unit_range(stop)?)
 }
 
 // Adds that a rule matches and gives nothing.
@@ -164,7 +123,7 @@ pub(crate) fn note_of(
         return Ok(out);
     }
     write!(out, "rule {number} stops ")?;
-    match range_of(stop) {
+    match unit_range(stop) {
         Some(range) => push_place(&mut out, source, range)?,
         None => out.push_str("at the end of the argument")?,
     }

@@ -2,72 +2,27 @@
 ghost use Rattle.std.specs.Prelude.{◌≡◌, ◌<◌, IfOk, IfSome, length, string_bytes};
 ghost use Rattle.call_messages.specs.Unfits.{AddsIfTold};
 
+use crate::known::{explain_known, known_at};
 use crate::marks::{lines_of, ranges_of};
 use crate::plain::section;
-use crate::search::{call_of, definition_before};
 use crate::source::Source;
-use crate::stops::{label_of, note_of, number_of, range_of};
+use crate::stops::{label_of, note_of, number_of};
+use crate::units::stop_range;
 use bumpalo::Bump;
 use expander_model::call::Call;
 use expander_model::definition::Definition;
-use mbe::{DeclarativeMacro, FragmentGrammar, MacroCallStyle};
-use mbe_explain::{Explanation, RuleStop, StopKind, explain_call};
+use mbe::FragmentGrammar;
+use mbe_explain::{Explanation, RuleStop, StopKind};
 use source_snippet::{Section, column_in, line_at, line_number, push_message};
 use std::alloc::{AllocError, Global};
-use tt::{TokenTreesView, TopSubtree, TtIter};
-use tt_data::{Delimiter, Edition, Span, SyntaxContext, TextRange, TtFault};
+use tt::TokenTreesView;
+use tt_data::{Edition, TextRange, TtFault};
 
 // How many rules are told of without counting the others.
 const FEW: usize = 4;
 
 // Why a matcher that is ambiguous matches nothing.
 const NO_CHOICE: &str = "a matcher must not choose between a fragment and something else";
-
-// The trees of a list, in no brackets.
-fn tree_of(alloc: Global, trees: &TtIter<'_>, place: Span) -> Result<TopSubtree, TtFault> {
-    TopSubtree::from_token_trees(
-        alloc,
-        Delimiter::invisible_spanned(place),
-        trees.remaining(),
-    )
-}
-
-// The macro that a definition defines.
-fn macro_of(
-    alloc: Global,
-    definition: &Definition<'_>,
-    edition: Edition,
-) -> Result<DeclarativeMacro, TtFault> {
-    let place = definition.name.span;
-    let body = tree_of(alloc, &definition.body, place)?;
-    let at = move |_context: SyntaxContext|
-        ensures { result ≡ edition }
-    { edition };
-    if !definition.is_macro {
-        return DeclarativeMacro::parse_macro_rules(alloc, &body, at);
-    }
-    let Some(arguments) = &definition.arguments else {
-        return DeclarativeMacro::parse_macro2(alloc, None, &body, at);
-    };
-    let arguments = tree_of(alloc, arguments, place)?;
-    DeclarativeMacro::parse_macro2(alloc, Some(&arguments), &body, at)
-}
-
-// The range of the closing bracket of a call.
-fn end_of(call: &Call<'_>) -> TextRange {
-    match call.from_group.first_group() {
-        Some((brackets, _inner, _rest)) => brackets.close_span.range,
-        None => call.name.span.range,
-    }
-}
-
-// The range of the unit at which a rule stops, or of the call's closing bracket.
-fn range_at(call: &Call<'_>, stop: &RuleStop<'_>) -> TextRange {
-    match range_of(stop) {
-        Some(range) => range,
-        None => end_of(call),
-    }
-}
 
 // The section that says where the nearest rule stops.
 fn error_section<'a>(
@@ -79,7 +34,7 @@ fn error_section<'a>(
     let name = call.name.sym.as_str();
     let title = format!(in alloc; "error: no rule matches this call of `{name}`")?;
     let words = label_of(alloc, source.text, stop)?;
-    section(alloc, source, title, range_at(call, stop), words)
+    section(alloc, source, title, stop_range(call, stop), words)
 }
 
 // The title of the note on a rule, of so many.
@@ -189,6 +144,17 @@ fn note_section<'a>(
     }))
 }
 
+/// What is told of a call.
+#[derive(Clone, Copy, PartialEq, Eq, Debug)]
+pub enum Unfit {
+    /// Why no rule fits.
+    Told,
+    /// Nothing: a rule fits.
+    Fits,
+    /// Nothing: no call is there, or no valid definition of its name with rules comes before it.
+    Unknown,
+}
+
 // Whether one of the rules fits.
 fn one_fits(rules: &[RuleStop<'_>]) -> bool {
     for rule in rules {
@@ -199,15 +165,15 @@ fn one_fits(rules: &[RuleStop<'_>]) -> bool {
     false
 }
 
-/// What is told of a call.
-#[derive(Clone, Copy, PartialEq, Eq, Debug)]
-pub enum Unfit {
-    /// Why no rule fits.
-    Told,
-    /// Nothing: a rule fits.
-    Fits,
-    /// Nothing: no call is there, or no valid definition of its name with rules comes before it.
-    Unknown,
+/// The place in `rules` of the rule that comes furthest, where none fits; or why there is nothing
+/// to tell.
+pub fn nearest_unfit(told: &Explanation<'_>) -> Result<usize, Unfit>
+    ensures { IfOk result (λ k. told.now.nearest ≡ Some k) }
+{
+    if one_fits(&told.rules) {
+        return Err(Unfit::Fits);
+    }
+    told.nearest.ok_or(Unfit::Unknown)
 }
 
 // Adds what is told of a call by its definition.
@@ -221,11 +187,9 @@ fn push_told(
 ) -> Result<Unfit, AllocError>
     ensures { IfOk result (AddsIfTold (string_bytes out.old) (string_bytes out.new)) }
 {
-    if one_fits(&told.rules) {
-        return Ok(Unfit::Fits);
-    }
-    let Some(nearest) = told.nearest else {
-        return Ok(Unfit::Unknown);
+    let nearest = match nearest_unfit(told) {
+        Ok(nearest) => nearest,
+        Err(unfit) => return Ok(unfit),
     };
     let Some(stop) = told.rules.get(nearest) else {
         return Ok(Unfit::Unknown);
@@ -266,20 +230,17 @@ pub fn push_unfit<G: FragmentGrammar>(
 ) -> Result<Unfit, TtFault>
     ensures { IfOk result (AddsIfTold (string_bytes out.old) (string_bytes out.new)) }
 {
-    let trees = place.trees.iter();
-    let Some(call) = call_of(&trees, place.at) else {
+    let Some(known) = known_at(alloc, edition, &place.trees.iter(), place.at)? else {
         return Ok(Unfit::Unknown);
     };
-    let Some(definition) = definition_before(&trees, place.at, call.name.sym.as_str()) else {
-        return Ok(Unfit::Unknown);
-    };
-    let rules = macro_of(alloc, &definition, edition)?;
-    if rules.err().is_some() {
-        return Ok(Unfit::Unknown);
-    }
     let arena = Bump::new(alloc);
-    let argument = call.argument.remaining();
-    let style = MacroCallStyle::FnLike;
-    let told = explain_call(alloc, &arena, grammar, &rules, argument, style)?;
-    Ok(push_told(alloc, out, place.source, &call, &definition, &told)?)
+    let told = explain_known(alloc, &arena, grammar, &known)?;
+    Ok(push_told(
+        alloc,
+        out,
+        place.source,
+        &known.call,
+        &known.definition,
+        &told,
+    )?)
 }

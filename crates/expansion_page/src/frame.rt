@@ -11,34 +11,52 @@ const HEAD: &str = r##"<!doctype html>
 <meta name=viewport content="width=device-width">
 <meta name=generator content=Filgordd>
 <meta http-equiv=Content-Security-Policy content="default-src 'none'; base-uri 'none';
- form-action 'none'; style-src 'sha256-eAocxIPRfqQMMs+JY2VyVRRGqRePqJj9By+2Veq/Hzk=';
- script-src 'sha256-wa2XACAw6cwD+LEby7Qu06bzGYiwCuNUo6GgLM6st54='">
+ form-action 'none'; style-src 'sha256-WT5Mk+0lLm8ZaJ6BOwA6J68mnQanXoo1DFlUdmaGC88=';
+ script-src 'sha256-oKaEnlCeAwywHTylcRm/LmgZ9Sa/19R4atN0P+JkX4c='">
 <title>"##;
 
 const HEADING: &str = r##": expansion</title>
 <style>
 :root { color-scheme: light dark; --page: #fff; --text: #1c2128; --dim: #5b6570; --line: #d5dae0;
-  --head: #f4f6f8; --fault: #c4241c; --mark: #ffdf5d; --other: #9fd4ff; --on: #111; }
+  --head: #f4f6f8; --fault: #c4241c; --mark: #ffdf5d; --other: #9fd4ff; --on: #111;
+  --k0: #e3eefd; --k1: #e1f4e5; --k2: #fdf0d3; --k3: #f4e4f8; }
 @media (prefers-color-scheme: dark) { :root { --page: #15191e; --text: #dde3ea; --dim: #929daa;
-  --line: #333b45; --head: #1d232a; --fault: #ff7b72; --mark: #e3b341; --other: #58a6ff; } }
+  --line: #333b45; --head: #1d232a; --fault: #ff7b72; --mark: #e3b341; --other: #58a6ff;
+  --k0: #1c2f49; --k1: #193527; --k2: #3b3018; --k3: #38233f; } }
 * { box-sizing: border-box; }
 body { margin: 0; height: 100vh; display: grid; background: var(--page); color: var(--text);
-  grid-template: auto minmax(0, 1fr) auto / minmax(0, 1fr) minmax(0, 1fr);
+  grid-template: auto minmax(0, 1fr) auto / minmax(0, 1fr) minmax(0, 1fr) auto;
   font: 15px/1.5 system-ui, sans-serif; }
-header, nav { grid-column: 1 / 3; padding: .5em 1rem; background: var(--head); }
+header, nav { grid-column: 1 / -1; padding: .5em 1rem; background: var(--head); }
 header { display: flex; flex-wrap: wrap; gap: .1em 1.2em; align-items: baseline;
   border-bottom: 1px solid var(--line); }
-h1, h2, p { margin: 0; }
+h1, h2, h3, p { margin: 0; }
 h1 { font-size: 1.05rem; overflow-wrap: anywhere; }
-header p, h2 { color: var(--dim); font-size: .85rem; }
-section { overflow: auto; outline: 0; }
-section + section { border-left: 1px solid var(--line); }
+header p, h2, h3 { color: var(--dim); font-size: .85rem; }
+section, aside { overflow: auto; outline: 0; }
+section + section, aside { border-left: 1px solid var(--line); }
 h2 { position: sticky; top: 0; z-index: 1; padding: .35em 1.5rem; font-weight: 600;
   background: var(--page); border-bottom: 1px solid var(--line); }
 section:focus-visible h2 { color: var(--text); box-shadow: inset 3px 0 var(--other); }
+button { font: inherit; color: inherit; background: none; cursor: pointer; padding: .1em .6em;
+  border: 1px solid var(--line); border-radius: 4px; }
+button[aria-pressed=true] { color: var(--text); border-color: var(--other); }
+#tabs button:not([data-tab=l]) { display: none; }
+aside { display: none; grid-row: 2; grid-column: 3; width: 17rem; font-size: .85rem; }
+.listed aside { display: block; }
+aside h3 { padding: .7em 1.5rem .2em; font-weight: 600; }
+aside ul { margin: 0; padding: 0; list-style: none; }
+aside li { padding: .1em 1.2rem .1em 1.5rem; overflow-wrap: anywhere; }
+aside a { color: inherit; font-family: ui-monospace, Menlo, "DejaVu Sans Mono", monospace; }
+aside span { color: var(--dim); }
+aside .f { text-decoration: none; color: var(--fault); }
 .t { padding: .7em 0 2em; white-space: pre-wrap; overflow-wrap: anywhere; tab-size: 4;
   font: 13px/1.6 ui-monospace, Menlo, "DejaVu Sans Mono", monospace; }
 .t > * { padding: 0 1.5rem; }
+#s .t > * { position: relative; padding-left: 4.2rem; }
+.n { position: absolute; left: 0; width: 3.4rem; text-align: right; color: var(--dim);
+  user-select: none; }
+.n::before { content: attr(data-n); }
 /* What is far from the window is not laid out. */
 .t div, details { content-visibility: auto; contain-intrinsic-size: auto 30em; }
 details { contain-intrinsic-size: auto 10em; }
@@ -48,8 +66,12 @@ bdi { unicode-bidi: isolate; }
 i, bdi { font-style: inherit; border-radius: 3px; }
 .c { color: var(--dim); }
 .f { text-decoration: underline wavy var(--fault); text-underline-offset: 3px; }
-bdi:target, .m { background: var(--mark); color: var(--on); }
-.o { background: var(--other); color: var(--on); }
+[data-k="0"] { background: var(--k0); }
+[data-k="1"] { background: var(--k1); }
+[data-k="2"] { background: var(--k2); }
+[data-k="3"] { background: var(--k3); }
+bdi:target, .t .m { background: var(--mark); color: var(--on); }
+.t .o { background: var(--other); color: var(--on); }
 summary { list-style: none; position: relative; }
 summary::-webkit-details-marker { display: none; }
 summary:not(:only-child) { cursor: pointer; }
@@ -63,16 +85,25 @@ nav:not(:has(li)) { display: none; }
 nav ul { margin: 0; padding: 0; list-style: none; }
 nav a { color: inherit; text-decoration-color: var(--fault); }
 nav a::before { content: "\25cf"; padding-right: .5em; color: var(--fault); }
-@media (max-width: 48em) { body { display: block; height: auto; }
-  section + section { border-left: 0; border-top: 1px solid var(--line); } }
+@media (max-width: 48em) { body:not([data-tab]) { display: block; height: auto; }
+  section + section, aside { border-left: 0; }
+  body:not([data-tab]) section + section { border-top: 1px solid var(--line); }
+  body[data-tab] { grid-template-columns: minmax(0, 1fr); }
+  body[data-tab] > section, body[data-tab] > aside { display: none; grid-row: 2;
+    grid-column: 1; width: auto; }
+  [data-tab=s] > #s, [data-tab=e] > #e, [data-tab=l] > #l { display: block !important; }
+  body[data-tab] h2 { display: none; } #tabs button:not([data-tab=l]) { display: inline; }
+  #s .t > * { padding-left: 3.2rem; } .n { width: 2.6rem; } .t > * { padding-right: .7rem; } }
 @media print { body { display: block; height: auto; } section { overflow: visible; }
+  #tabs, aside { display: none !important; } section { display: block !important; }
   section + section { border: 0; } h2 { position: static; } nav { max-height: none; }
   .t div, details, details::details-content { content-visibility: visible; }
   details::details-content { display: block; } }
 </style>
 <header><h1>"##;
 
-const SOURCE: &str = r##"</p></header>
+const SOURCE: &str = r##"</p><p id=tabs hidden><button data-tab=s>Source</button>
+<button data-tab=e>Expansion</button> <button data-tab=l>Macros and calls</button></p></header>
 <section id=s tabindex=0 aria-label=Source><h2>Source</h2><div class=t><div>"##;
 
 const EXPANSION: &str = r##"</div></div></section>
@@ -85,38 +116,80 @@ const FAULTS: &str = r##"</div></section>
 "##;
 
 const FOOT: &str = r##"</ul></nav>
+<aside id=l aria-label="Macros and calls"></aside>
 <script>
 "use strict";
 // A pane has blocks, of which each has elements and text. An element is one token, unless its
-// class is `c`. In text each word is a token, and each other character but white space.
-const TOKEN = /\w+|[^\s\w]/g, BRACKETS = "([{!)]}", MOST = 1000;
+// class is `c`, or `n` for the number of a line. In text each word is a token, and each other
+// character but white space.
+const TOKEN = /\w+|[^\s\w]/g, PART = /\w+|[^\s\w]|\n/g, BRACKETS = "([{!)]}", MOST = 1000;
 const BLOCKS = { s: "#s .t > div", e: "#e summary, #e details > div" };
 const paneOf = (id) => {
   const blocks = [...document.querySelectorAll(BLOCKS[id])];
   blocks.forEach((block, i) => { block.at = i; });
   // `starts` has the number of tokens before each block, as far as blocks are read.
-  return { id, blocks, starts: [0], count: 0 };
+  return { id, blocks, starts: [0], count: 0, line: 1, tints: [] };
 };
 const source = paneOf("s"), shown = paneOf("e");
 // What each token of the source is of `BRACKETS`, and the origin of each printed token, from 1.
 const signs = [], from = [];
+const isToken = (node) => node.className !== "c" && node.className !== "n";
 let first = null, next = null, kept = null, marked = [], number = 0;
 const readBlock = (pane, readWord, readElement) => {
   const block = pane.blocks[pane.starts.length - 1];
   block.normalize();
+  block.line = pane.line;
   for (let node = block.firstChild; node; node = node.nextSibling) {
     if (node.nodeType === 3) {
-      const words = node.data.match(TOKEN) || [];
-      words.forEach(readWord);
-      pane.count += words.length;
-    } else if (node.className !== "c") {
-      readElement(node);
-      pane.count += 1;
+      for (const part of node.data.match(PART) || []) {
+        if (part === "\n") pane.line += 1;
+        else { readWord(part); pane.count += 1; }
+      }
+    } else {
+      if (isToken(node)) { readElement(node); pane.count += 1; }
+      pane.line += node.textContent.split("\n").length - 1;
     }
   }
   pane.starts.push(pane.count);
+  dress(block);
 };
-const readSign = (text) => { signs.push(BRACKETS.indexOf(text)); };
+// Macros and calls of the source, each with its name, the token of that and its line. A call in a
+// definition is none. A call has the token of its closing bracket.
+const macros = [], calls = [], open = [], last = ["", ""], faults = new Map();
+const WORDS = new Set("if while match return in break else".split(" "));
+const isName = (text) => /^(r#)?[\p{L}_][\p{L}\p{N}_]*$/u.test(text) && !WORDS.has(text);
+let definition = null;
+const found = (list, name, at) => {
+  list.push({ name, at, line: source.line, end: at });
+  return list[list.length - 1];
+};
+const define = (name, at, isRules) => {
+  found(macros, name, at);
+  definition = { depth: open.length, isRules };
+};
+const readSign = (text) => {
+  const sign = BRACKETS.indexOf(text), at = signs.length, [first, second] = last;
+  signs.push(sign);
+  last[0] = second;
+  last[1] = text;
+  if (sign >= 0 && sign < 3) {
+    const isCall = !definition && second === "!" && isName(first);
+    open.push(isCall ? found(calls, first, at - 2) : null);
+  } else if (sign > 3) {
+    const call = open.pop();
+    if (call) call.end = at;
+    if (definition && open.length <= definition.depth && (definition.isRules || text === "}")) {
+      definition = null;
+    }
+  } else if (!definition && isName(text)) {
+    if (second === "!" && first === "macro_rules") define(text, at, true);
+    if (second === "macro") define(text, at, false);
+  }
+};
+const readMarked = (node) => {
+  if (node.classList.contains("f")) faults.set(signs.length, node.title);
+  readSign(node.textContent);
+};
 const readOrigin = (node) => {
   number = node.hasAttribute("o") ? +node.getAttribute("o") : number + 1;
   from.push(number);
@@ -136,11 +209,14 @@ const link = () => {
 const isRead = () => first !== null;
 const readNext = () => {
   if (source.starts.length <= source.blocks.length) {
-    readBlock(source, readSign, (node) => readSign(node.textContent));
+    readBlock(source, readSign, readMarked);
   } else if (shown.starts.length <= shown.blocks.length) {
     readBlock(shown, () => { from.push(++number); }, readOrigin);
   } else {
     link();
+    tint();
+    list();
+    [...source.blocks, ...shown.blocks].forEach(dress);
   }
 };
 const finish = () => { while (!isRead()) readNext(); };
@@ -157,7 +233,7 @@ const elementsOf = (block) => {
   block.tokens = [];
   for (const node of [...block.childNodes]) {
     if (node.nodeType === 3) node.replaceWith(...wrapped(node.data, block.tokens));
-    else if (node.className !== "c") block.tokens.push(node);
+    else if (isToken(node)) block.tokens.push(node);
   }
   return block.tokens;
 };
@@ -198,6 +274,148 @@ const neighbour = (at, step) => {
   return at;
 };
 const lastOf = (at) => { let i = first[at]; while (next[i] >= 0) i = next[i]; return i; };
+// What comes of each call, but of those in an argument, is tinted, and so is the call: from the
+// token before the call, and up to that behind it, that is printed. Calls between which nothing is
+// printed share this. A group that is not printed, as of a definition, is passed over.
+const tint = () => {
+  const gone = calls.filter((call) => !isPrinted(call.at));
+  let depth = 0, before = -1, now = null, number = 0, at = 0, which = 0;
+  const close = (stop) => {
+    if (now) shown.tints.push({ ...now, stop });
+    now = null;
+  };
+  while (at < source.count && shown.count) {
+    while (which < gone.length && gone[which].at < at) which += 1;
+    const call = gone[which];
+    if (call && call.at === at && !depth) {
+      now = now || { start: before < 0 ? 0 : lastOf(before) + 1, k: number++ % 4 };
+      call.k = now.k;
+      source.tints.push({ start: at, stop: call.end + 1, k: call.k });
+      at = call.end;
+    } else if (isOpen(at) && (depth || !isPrinted(at))) {
+      depth += 1;
+    } else if (isClose(at) && depth) {
+      depth -= 1;
+    } else if (!depth && isPrinted(at)) {
+      close(first[at]);
+      before = at;
+    }
+    at += 1;
+  }
+  close(shown.count);
+};
+// A block near the window gets the numbers of its lines and the tints of its tokens.
+const near = new Set();
+const dress = (block) => {
+  if (!near.has(block) || !block.line) return;
+  const pane = block.closest("#s") ? source : shown;
+  if (pane === source) numberLines(block);
+  if (!isRead() || block.isTinted) return;
+  block.isTinted = true;
+  const start = pane.starts[block.at], stop = pane.starts[block.at + 1];
+  for (const it of pane.tints) {
+    for (let i = Math.max(it.start, start); i < Math.min(it.stop, stop); i++) {
+      elementsOf(block)[i - start].dataset.k = it.k;
+    }
+  }
+};
+const numberLines = (block) => {
+  block.querySelectorAll(".n").forEach((old) => old.remove());
+  const top = block.getBoundingClientRect().top, range = document.createRange(), numbers = [];
+  const walk = document.createTreeWalker(block, NodeFilter.SHOW_TEXT);
+  let line = block.line, isBegun = false;
+  for (let node = walk.nextNode(); node; node = walk.nextNode()) {
+    for (let at = 0; at < node.length;) {
+      if (!isBegun) {
+        range.setStart(node, at);
+        range.setEnd(node, at + 1);
+        const [place] = range.getClientRects(), it = document.createElement("span");
+        it.className = "n";
+        it.dataset.n = line;
+        if (place) {
+          it.style.top = `${place.top - top}px`;
+          it.style.lineHeight = `${place.height}px`;
+          numbers.push(it);
+        }
+      }
+      const feed = node.data.indexOf("\n", at);
+      isBegun = feed < 0;
+      if (isBegun) break;
+      line += 1;
+      at = feed + 1;
+    }
+  }
+  block.append(...numbers);
+};
+const watch = (id) => {
+  const root = document.getElementById(id);
+  const watcher = new IntersectionObserver((seen) => seen.forEach(({ isIntersecting, target }) => {
+    near[isIntersecting ? "add" : "delete"](target);
+    dress(target);
+  }), { root, rootMargin: "50% 0px" });
+  (id === "s" ? source : shown).blocks.forEach((block) => watcher.observe(block));
+  let width = root.clientWidth;
+  new ResizeObserver(() => {
+    if (root.clientWidth !== width) near.forEach(dress);
+    width = root.clientWidth;
+  }).observe(root);
+};
+// The list of macros and calls.
+const element = (name, text, ...inside) => {
+  const it = document.createElement(name);
+  it.append(text, ...inside);
+  return it;
+};
+const stateOf = (call) => {
+  const fault = faults.get(call.at), isGone = !isPrinted(call.at) && !isPrinted(call.at + 1);
+  const words = fault ? fault.replace(/^.*?: /, "").trim()
+    : isGone ? "expanded" : "no definition here";
+  const state = element("span", shown.count || fault ? words : "");
+  state.className = fault ? "f" : "";
+  return state;
+};
+const itemOf = (it, mark, ...state) => {
+  const link = element("a", element("bdi", it.name + mark)), item = element("li", link);
+  link.href = `#s${it.at + 1}`;
+  item.append(" ", element("span", `line ${it.line}`), ...state);
+  if (it.k >= 0) link.dataset.k = it.k;
+  return item;
+};
+const listOf = (title, items, make) => {
+  const all = element("ul", "");
+  all.append(...items.slice(0, MOST).map(make));
+  if (items.length > MOST) all.append(element("li", `${items.length - MOST} more`));
+  return items.length ? [element("h3", `${title} (${items.length})`), all] : [];
+};
+const list = () => {
+  const pane = document.getElementById("l");
+  if (!macros.length && !calls.length) return;
+  pane.append(element("h2", "Macros and calls"));
+  pane.append(...listOf("Macros", macros, (it) => itemOf(it, "")));
+  pane.append(...listOf("Calls", calls, (it) => itemOf(it, "!", ", ", stateOf(it))));
+  document.getElementById("tabs").hidden = false;
+  if (innerWidth >= 1100) document.body.classList.add("listed");
+  press();
+};
+// In a narrow window one pane is shown at a time.
+const isNarrow = () => matchMedia("(max-width: 48em)").matches;
+const press = () => document.querySelectorAll("#tabs button").forEach((button) => {
+  const id = button.dataset.tab, body = document.body;
+  const isShown = isNarrow() ? body.dataset.tab === id : body.classList.contains("listed");
+  button.setAttribute("aria-pressed", isShown);
+});
+const showTab = (id) => {
+  document.body.dataset.tab = id;
+  press();
+  if (kept) [kept, ...others(kept)].filter(({ pane }) => pane.id === id).slice(0, 1).forEach(see);
+};
+document.getElementById("tabs").addEventListener("click", ({ target }) => {
+  if (!target.dataset.tab) return;
+  if (isNarrow()) showTab(target.dataset.tab);
+  else document.body.classList.toggle("listed");
+  press();
+});
+addEventListener("resize", press);
 // What is printed between the tokens around a call, whose name is here; of a call in another's
 // argument, around that one.
 const printedOfCall = (at) => {
@@ -237,7 +455,11 @@ const see = (it) => {
 const keep = (it, isSeen) => {
   kept = it;
   mark(it);
-  if (it) [...(isSeen ? [it] : []), ...others(it).slice(0, 1)].forEach(see);
+  if (it && isNarrow()) {
+    if (isSeen) showTab(it.pane.id);
+  } else if (it) {
+    [...(isSeen ? [it] : []), ...others(it).slice(0, 1)].forEach(see);
+  }
 };
 const isSame = (a, b) => a && b && a.pane === b.pane && a.at === b.at;
 const tokenOf = (target, event) => {
@@ -273,8 +495,8 @@ addEventListener("keydown", (event) => {
     const at = isHere ? kept.at + step : step > 0 ? 0 : pane.count - 1;
     keep(isIn(pane, at) ? { pane, at } : kept, true);
   } else if (event.key === "Enter" && isHere && others(kept).length) {
-    document.getElementById(pane === shown ? "s" : "e").focus();
     keep(others(kept)[0], true);
+    document.getElementById(kept.pane.id).focus();
   }
 });
 // `#s3` is the third token of the source, `#e3` that of the expansion.
@@ -289,6 +511,10 @@ addEventListener("hashchange", follow);
 addEventListener("beforeprint", () => {
   document.querySelectorAll("details").forEach((it) => { it.open = true; });
 });
+document.body.dataset.tab = "s";
+document.getElementById("tabs").hidden = !isNarrow();
+watch("s");
+watch("e");
 setTimeout(slice);
 follow();
 </script>

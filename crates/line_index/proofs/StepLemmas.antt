@@ -1,5 +1,5 @@
 -- Lines, one byte on. (For the loops over a text.)
-use Rattle.std.proofs.Common.{◌∙◌, ◌++◌, take, sym, get_or, ◌≡◌, ℕ, zero, suc, ◌+◌, ◌-◌, ◌*◌, ◌<◌, ◌≤◌, Bool, true, false, if◌then◌else◌, List, [], ◌∷◌, length, drop, slice_index, slice_range, sum_by, refl, ap, arith, length-drop}
+use Rattle.std.proofs.Common.{◌∙◌, ◌++◌, take, sym, ◌≡◌, ℕ, zero, suc, ◌+◌, ◌-◌, ◌*◌, ◌<◌, ◌≤◌, Bool, true, false, if◌then◌else◌, List, [], ◌∷◌, length, drop, slice_index, slice_range, sum_by, refl, ap, arith, length-drop}
 use Rattle.std.proofs.lemmas.Grind.{common_steps}
 use Rattle.std.proofs.lemmas.List.{drop_more, get_or-drop, take_more}
 use Rattle.std.proofs.lemmas.List.Sums.{sum_by_push}
@@ -101,7 +101,7 @@ next_start xs i within ends =
     rw on (start_at_suc xs i within (ap (λ n. ends_line (slice_index xs i) (drop n xs)) (sym on) ∙ ends))
 
 -- one byte on in a line, its units more come before
-same_line : (xs : List ℕ) (start i : ℕ) → start ≤ i → i < length xs
+pub same_line : (xs : List ℕ) (start i : ℕ) → start ≤ i → i < length xs
     → sum_by units (slice_range xs start (i + 1))
     ≡ sum_by units (slice_range xs start i) + units (slice_index xs i)
 same_line xs start i before within =

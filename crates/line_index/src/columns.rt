@@ -1,9 +1,10 @@
-//! How many columns a byte is, and how many bytes come before a column.
-ghost use Rattle.std.specs.Prelude.{◌≡◌, ◌≤◌, ◌+◌, drop, IsCharBoundary, length};
+//! How many columns bytes are, and how many bytes come before a column.
+ghost use Rattle.std.specs.Prelude.{◌≡◌, ◌≤◌, ◌+◌, ◌<◌, ◌^◌, IsCharBoundary, drop, length, slice_range};
+ghost use Rattle.std.specs.Prelude.{sum_by};
 ghost use Rattle.line_index.specs.Lines.{column_offset, units};
 
-/// The UTF-16 code units of the character that begins with this byte; none of a byte within one.
-pub(crate) fn units(byte: u8) -> usize
+// The UTF-16 code units of the character that begins with this byte; none of a byte within one.
+fn units(byte: u8) -> usize
     ensures count { result ≡ units byte }
     ensures few { result ≤ 2 }
 {
@@ -13,6 +14,20 @@ pub(crate) fn units(byte: u8) -> usize
         192..=239 => 1,
         _ => 2,
     }
+}
+
+/// The units of the bytes from `start` up to `end`, of at most `u32::MAX`.
+pub(crate) fn units_between(text: &[u8], start: usize, end: usize) -> usize
+    requires short { length text.now < 2 ^ 32 }
+    requires order { start ≤ «end» }
+    requires within { «end» ≤ length text.now }
+    ensures { result ≡ sum_by units (slice_range text.now start «end») }
+{
+    let mut count = 0;
+    for byte in &text[start..end] {
+        count += units(*byte);
+    }
+    count
 }
 
 /// How many bytes of a text, from `start` on, come before a column of its first line.

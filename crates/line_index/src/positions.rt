@@ -2,8 +2,8 @@
 ghost use Rattle.std.specs.Prelude.{◌≡◌, ◌≤◌, ◌<◌, ◌^◌, IsCharBoundary, length, min};
 ghost use Rattle.line_index.specs.Lines.{IsPositionOf, column_of, line_of, offset_of};
 
-use crate::columns::{column_offset, units};
-use crate::lines::{ends_line, line_start};
+use crate::columns::{column_offset, units_between};
+use crate::lines::{line_end, line_start};
 
 /// A position in a text: its line and its column, both from 0. A column counts UTF-16 code units.
 #[derive(Clone, Copy, Debug, PartialEq, Eq)]
@@ -40,14 +40,16 @@ pub fn position_behind(text: &str, from: usize, position: Position, at: usize) -
         mut line,
         mut column,
     } = position;
-    for i in from..at {
-        if ends_line(bytes, i) {
-            line += 1;
-            column = 0;
-        } else {
-            column += units(bytes[i]);
+    let mut start = from;
+    while let Some(end) = line_end(bytes, start) {
+        if at <= end {
+            break;
         }
+        line += 1;
+        column = 0;
+        start = end + 1;
     }
+    column += units_between(bytes, start, at);
     Position { line, column }
 }
 

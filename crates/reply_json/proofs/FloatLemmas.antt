@@ -7,7 +7,8 @@ use Rattle.serde_json.specs.Written.{has_float, items_have_float}
 use Rattle.bridge.specs.PrintedRanges.{read_ranges}
 use Rattle.expander_model.specs.declared.fault.Fault.{Fault}
 use Rattle.expander_session.specs.Expanded.{Expanded}
-use Rattle.reply_json.specs.Lines.{count, ends_of, expansion, fault, origin_numbers}
+use Rattle.call_json.specs.Places.{count}
+use Rattle.reply_json.specs.Lines.{ends_of, expansion, fault, origin_numbers}
 
 no_float_in : (ns : List ℕ) → items_have_float (items_of (map count ns)) ≡ false
 no_float_in [] = refl

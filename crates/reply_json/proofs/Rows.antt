@@ -1,15 +1,6 @@
--- Places and numbers, worked out.
+-- Numbers, worked out.
 use Rattle.std.proofs.Common.{◌≡◌, [], ◌∷◌, refl}
-use Rattle.std.specs.Prelude.{codes}
-use Rattle.serde_json.specs.Data.{member, no_members, object}
-use Rattle.reply_json.specs.Lines.{ends_of, numbers, origin_numbers, place}
-
--- a character of four bytes counts two columns
-a_place : place (97 ∷ 10 ∷ 240 ∷ 159 ∷ 152 ∷ 128 ∷ 98 ∷ []) (record { start = 6; «end» = 7 })
-    ≡ object (member (codes "bytes") (numbers (6 ∷ 7 ∷ []))
-    (member (codes "end") (numbers (1 ∷ 3 ∷ []))
-    (member (codes "start") (numbers (1 ∷ 2 ∷ [])) no_members)))
-a_place = refl
+use Rattle.reply_json.specs.Lines.{ends_of, origin_numbers}
 
 two_ranges : ends_of (record { start = 0; «end» = 1 } ∷ record { start = 2; «end» = 5 } ∷ [])
     ≡ 0 ∷ 1 ∷ 2 ∷ 5 ∷ []

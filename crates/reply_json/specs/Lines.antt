@@ -1,10 +1,10 @@
 -- JSON values that tell what a session replies. A line is the compact JSON of one. (RFC 8259; of
 -- this project: the members.)
-use Rattle.std.specs.Prelude.{ℕ, List, [], ◌∷◌, codes, length, map, min}
+use Rattle.std.specs.Prelude.{ℕ, List, [], ◌∷◌, codes, map}
 use Rattle.tt_data.specs.declared.span.TextRange.{TextRange}
-use Rattle.serde_json.specs.Data.{Data, number, unsigned, string, array, object, Members, member, no_members}
+use Rattle.serde_json.specs.Data.{Data, string, array, object, Members, member, no_members}
 use Rattle.serde_json.specs.View.{items_of}
-use Rattle.line_index.specs.Lines.{column_of, line_of}
+use Rattle.call_json.specs.Places.{count, numbers, place}
 use Rattle.bridge.specs.PrintedRanges.{read_ranges}
 use Rattle.bridge.specs.declared.reading.outcome.ReadFault.{ReadFault}
 use Rattle.bridge.specs.declared.reading.outcome.ReadFaultKind.{ReadFaultKind}
@@ -16,35 +16,12 @@ use Rattle.expander_run.specs.Lines.{fault_words, read_fault_words, refusal_word
 use Rattle.expander_scope.specs.declared.refusal.Refusal.{Refusal}
 use Rattle.expander_session.specs.Expanded.{Expanded}
 
--- a number
-abbrev pub count : ℕ → Data
-count n = number (unsigned n)
-
--- a list of numbers
-abbrev pub numbers : List ℕ → Data
-numbers ns = array (items_of (map count ns))
-
 -- what tells which form a line has, and the version of these forms
 abbrev pub answer : List ℕ → Members → Members
 answer name rest = member (codes "answer") (string name) rest
 
 abbrev pub version : Members
 version = member (codes "v") (count 1) no_members
-
--- ---- places
-
--- the position of a byte: its line and its UTF-16 column, both from 0. A byte past the end is the
--- end.
-abbrev pub position : List ℕ → ℕ → Data
-position text at = let byte : ℕ = min at (length text) in
-    numbers (line_of text byte ∷ column_of text byte ∷ [])
-
--- a range of a text: its bytes, and the positions of both
-abbrev pub place : List ℕ → TextRange → Data
-place text range =
-    object (member (codes "bytes") (numbers (range.start ∷ range.«end» ∷ []))
-    (member (codes "end") (position text range.«end»)
-    (member (codes "start") (position text range.start) no_members)))
 
 -- ---- faults
 

@@ -4,8 +4,8 @@ ghost use Rattle.serde_json.specs.View.{view};
 ghost use Rattle.line_index.specs.Lines.{IsSpot};
 ghost use Rattle.reply_json.specs.Lines.{fault, faults, kind_name, read_kind_name};
 
-use crate::places::place_from;
 use bridge::ReadFaultKind;
+use call_json::place_from;
 use expander_model::fault::{Fault, FaultKind};
 use expander_run::lines::fault_words;
 use line_index::{BEGIN, Spot, spot_at};

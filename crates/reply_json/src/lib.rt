@@ -2,8 +2,6 @@
 #![tactic(auto)]
 
 mod faults;
-mod numbers;
-mod places;
 mod reply;
 mod tokens;
 

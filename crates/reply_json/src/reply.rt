@@ -5,9 +5,9 @@ ghost use Rattle.serde_json.specs.View.{view};
 ghost use Rattle.reply_json.specs.Lines.{expansion, refused, unread};
 
 use crate::faults::{faults_of, read_kind_name};
-use crate::places::place_from;
 use crate::tokens::{origins_of, ranges_of};
 use bridge::ReadFault;
+use call_json::place_from;
 use expander_run::lines::{read_fault_words, refusal_words};
 use expander_scope::refusal::Refusal;
 use expander_session::session::Expansion;

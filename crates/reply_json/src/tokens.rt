@@ -2,9 +2,10 @@
 ghost use Rattle.std.specs.Prelude.{◌≡◌, ◌<◌, ◌^◌, IfOk, length};
 ghost use Rattle.bridge.specs.PrintedRanges.{read_ranges};
 ghost use Rattle.serde_json.specs.View.{view};
-ghost use Rattle.reply_json.specs.Lines.{ends_of, numbers, origin_numbers};
+ghost use Rattle.call_json.specs.Places.{numbers};
+ghost use Rattle.reply_json.specs.Lines.{ends_of, origin_numbers};
 
-use crate::numbers::push_number;
+use call_json::push_number;
 use expander_session::session::Expansion;
 use serde_json::Value;
 use std::alloc::{AllocError, Global};

@@ -1,5 +1,6 @@
 //! Use of the tree layer from a crate above it, by public calls alone: walks with contracts of
-//! their own, and the tests of `byte_buffer`, `symbols`, `tt_data`, `tt` and `packed_tree`.
+//! their own, and the tests of `byte_buffer`, `token_bytes`, `symbols`, `tt_data` and
+//! `tt`.
 //!
 //! A clause holds for all arguments, so tests are few: each public call with enough memory,
 //! closures with a state, what `{:?}` prints, deep nesting, and refused requests for memory.
@@ -14,10 +15,6 @@ mod faults;
 #[cfg(test)]
 mod nesting;
 #[cfg(test)]
-mod packed;
-#[cfg(test)]
-mod packed_use;
-#[cfg(test)]
 mod refused;
 #[cfg(test)]
 mod samples;
@@ -25,4 +22,6 @@ mod samples;
 mod sharing;
 #[cfg(test)]
 mod states;
+#[cfg(test)]
+mod stored;
 pub mod walks;

@@ -1,12 +1,9 @@
 //! Each call that takes memory, made once more if it was refused: for runs in which one allocation
 //! fails. A refused call changes nothing, so the tree is the expected one.
 use crate::byte_buffers::are_kept_whole;
-use crate::packed::{
-    are_built, are_checked, are_cut_back, are_misplaced, are_numbered, are_told, have_sizes,
-};
-use crate::packed_use::{are_enclosed, are_relabelled, are_replaced, are_walked};
 use crate::samples::{begun, built, byte_at, punct, shows, tells, tree};
 use crate::states::{number_anchors, rewrite};
+use crate::stored::are_stored;
 use crate::walks::rebuilt;
 use std::alloc::Global;
 use std::test::*;
@@ -206,18 +203,7 @@ fn is_right(alloc: Global, part: u8) -> Result<bool, TtFault> {
         3 => names(alloc),
         4 => numbers(alloc),
         5 => texts(alloc),
-        6 => changes(alloc),
-        7 => have_sizes(alloc),
-        8 => are_told(alloc),
-        9 => are_checked(alloc),
-        10 => are_numbered(alloc),
-        11 => are_built(alloc),
-        12 => are_cut_back(alloc),
-        13 => are_misplaced(alloc),
-        14 => are_walked(alloc),
-        15 => are_enclosed(alloc),
-        16 => are_replaced(alloc),
-        _ => are_relabelled(alloc),
+        _ => changes(alloc),
     }
 }
 
@@ -242,8 +228,8 @@ fn trees(rt: HostRuntime) -> Result<(), Fail> {
 }
 
 #[test]
-fn packed_trees(rt: HostRuntime) -> Result<(), Fail> {
-    assert!(rt; are_right(rt.alloc(), 7, 17)?);
+fn stored_tokens(rt: HostRuntime) -> Result<(), Fail> {
+    assert!(rt; are_stored(rt.alloc())?);
     Ok(())
 }
 

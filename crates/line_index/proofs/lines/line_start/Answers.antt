@@ -1,12 +1,22 @@
-use Rattle.std.proofs.Common.{arith}
-use Rattle.std.proofs.lemmas.Grind.{common_steps}
-use Rattle.line_index.proofs.StepLemmas.{line_start-drop, line_start-past}
+use Rattle.std.proofs.Common.{◌≡◌, ◌∙◌, ◌+◌, ◌-◌, arith, ap, drop, sym, ℕ}
+use Rattle.line_index.specs.Lines.{line_start}
+use Rattle.line_index.proofs.EndLemmas.{next_line, no_line}
 use Rattle.line_index.proofs.lines.line_start.Goals as goal
 
-pub loop-left-preserved : goal.loop-left-preserved
-loop-left-preserved c =
-    grind (arith, common_steps, line_start-drop c.args.text.now c.loop-left.at c.loop-left.left)
+pub returns-in-None-clause-start : goal.returns-in-None-clause-start
+returns-in-None-clause-start c =
+    sym (no_line c.args.text.now c.loop.start (c.args.line - c.loop.counter) (omega (arith, c.loop-test.true)) c.loop.invariant.within
+    (rw c.in-None.is at c.line_end.ensures))
+    ∙ c.loop.invariant.so_far
 
-pub returns-else-at-text-clause-start : goal.returns-else-at-text-clause-start
-returns-else-at-text-clause-start c =
-    grind (arith, common_steps, line_start-past c.args.text.now c.loop-left.at c.loop-left.left)
+pub loop-preserved : goal.loop-preserved
+loop-preserved c =
+    let found = rw c.in-Some.is at c.line_end.ensures in
+    let left : c.args.line - c.loop.counter - 1 ≡ c.args.line - (c.loop.counter + 1) = omega arith in
+    record {
+      within = omega (arith, found.within);
+      so_far =
+          ap (λ (n : ℕ). c.in-Some.at + 1 + line_start (drop (c.in-Some.at + 1) c.args.text.now) n) (sym left)
+          ∙ sym (next_line c.args.text.now c.loop.start c.in-Some.at (c.args.line - c.loop.counter) (omega (arith, c.loop-test.true)) found)
+          ∙ c.loop.invariant.so_far;
+    }

@@ -1,43 +1,52 @@
--- One byte on: a line more where a line ends with it, and else its units more.
-use Rattle.std.proofs.Common.{◌≡◌, ◌<◌, ◌+◌, ◌∙◌, ap, arith, length, sym, subst, true, false, if◌then◌else◌, Bool}
-use Rattle.line_index.proofs.StepLemmas.{column_of-few, column_of-next, line_of-few, line_of-next}
+use Rattle.std.proofs.Common.{◌∙◌, arith, length, sym}
+use Rattle.line_index.specs.LineEnds.{NoneEnds}
+use Rattle.line_index.proofs.EndLemmas.{behind_end, in_line, none_nearer}
+use Rattle.line_index.proofs.StepLemmas.{column_of-few, line_of-few}
 use Rattle.line_index.proofs.positions.position_behind.Goals as goal
-use Rattle.line_index.proofs.positions.position_behind.Goals.{then-ends_line, else-ends_line}
+use Rattle.line_index.proofs.positions.position_behind.Goals.{in-Some+then-at-end, in_default}
 
 pub overflow_add-line : goal.overflow_add-line
 overflow_add-line c =
     omega (
       arith,
-      c.loop-i.invariant.line,
-      line_of-few c.args.text.now c.loop-i.i,
-      c.loop-i-test.true,
+      c.loop-end.invariant.line,
+      c.loop-end.invariant.order,
+      line_of-few c.args.text.now c.loop-end.start,
       c.requires.within,
       c.requires.short,
     )
+
+pub loop-end-preserved : goal.loop-end-preserved
+loop-end-preserved c =
+    let found = rw (c.in-Some.is, c.as_bytes-bytes.ensures.value) at c.line_end.ensures in
+    let behind = behind_end c.args.text.now c.loop-end.start c.in-Some.end found in
+    record {
+      order = omega (arith, c.if-at-end.false);
+      line = omega (arith, c.loop-end.invariant.line, behind.0);
+      column = sym behind.1;
+    }
+
+-- no line ends from the last begin up to the byte
+none_left : (c : goal.After-units_between-column) → NoneEnds c.args.text.now c.loop-end.start c.args.at
+none_left c = elim c.match-line_end.branch [
+  | in-Some+then-at-end w ↦
+      let found = rw (w.in-Some.is, c.as_bytes-bytes.ensures.value) at c.line_end.ensures in
+      none_nearer c.args.text.now c.loop-end.start c.args.at w.in-Some.end (omega (arith, w.if-at-end.true)) found.none
+  | in_default w ↦
+      let found = rw (w.in_default.is, c.as_bytes-bytes.ensures.value) at c.line_end.ensures in
+      none_nearer c.args.text.now c.loop-end.start c.args.at (length c.args.text.now) c.requires.within found
+]
 
 pub overflow_add-column : goal.overflow_add-column
 overflow_add-column c =
-    omega (
-      arith,
-      c.loop-i.invariant.column,
-      column_of-few c.args.text.now c.loop-i.i (omega (arith, c.loop-i-test.true, c.requires.within)),
-      c.units-column.ensures.few,
-      c.loop-i-test.true,
-      c.requires.within,
-      c.requires.short,
-    )
+    let here = in_line c.args.text.now c.loop-end.start c.args.at c.loop-end.invariant.order c.requires.within (none_left c) in
+    let count = rw c.as_bytes-bytes.ensures.value at c.units_between-column.ensures in
+    omega (arith, c.loop-end.invariant.column, here.1, count, column_of-few c.args.text.now c.args.at c.requires.within, c.requires.within, c.requires.short)
 
-pub loop-i-preserved : goal.loop-i-preserved
-loop-i-preserved c =
-    let inside : c.loop-i.i < length c.args.text.now =
-    omega (arith, c.loop-i-test.true, c.requires.within) in
-    grind (
-      arith,
-      line_of-next c.args.text.now c.loop-i.i inside,
-      column_of-next c.args.text.now c.loop-i.i inside,
-      c.loop-i.invariant.line,
-      c.loop-i.invariant.column,
-      c.ends_line.ensures,
-      c.as_bytes-bytes.ensures.value,
-      c.if-ends_line.branch,
+pub returns : goal.returns
+returns c =
+    let here = in_line c.args.text.now c.loop-end.start c.args.at c.loop-end.invariant.order c.requires.within (none_left c) in
+    let count = rw c.as_bytes-bytes.ensures.value at c.units_between-column.ensures in (
+      c.loop-end.invariant.line ∙ sym here.0,
+      omega (arith, c.loop-end.invariant.column, here.1, count),
     )

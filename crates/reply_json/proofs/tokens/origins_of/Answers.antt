@@ -4,7 +4,8 @@ use Rattle.std.proofs.lemmas.Option.{slice_get_within}
 use Rattle.serde_json.specs.Data.{array}
 use Rattle.serde_json.specs.View.{items_of, view}
 use Rattle.serde_json.proofs.Views.{view-Array}
-use Rattle.reply_json.specs.Lines.{count, origin_numbers}
+use Rattle.call_json.specs.Places.{count}
+use Rattle.reply_json.specs.Lines.{origin_numbers}
 use Rattle.reply_json.proofs.ListLemmas.{behind_three, left_at, none_left}
 use Rattle.reply_json.proofs.tokens.origins_of.Goals as goal
 

@@ -1,6 +1,7 @@
 use Rattle.std.proofs.Common.{◌≡◌, ◌≤◌, ◌-◌, ◌++◌, drop, length, map}
 use Rattle.serde_json.specs.View.{view}
-use Rattle.reply_json.specs.Lines.{count, origin_numbers}
+use Rattle.call_json.specs.Places.{count}
+use Rattle.reply_json.specs.Lines.{origin_numbers}
 use Rattle.reply_json.proofs.tokens.origins_of.Given as given
 
 -- the numbers so far and those of the tokens that are left are all

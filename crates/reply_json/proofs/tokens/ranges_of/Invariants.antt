@@ -1,7 +1,8 @@
 use Rattle.std.proofs.Common.{◌≡◌, ◌++◌, map}
 use Rattle.serde_json.specs.View.{view}
 use Rattle.bridge.specs.PrintedRanges.{read_ranges}
-use Rattle.reply_json.specs.Lines.{count, ends_of}
+use Rattle.call_json.specs.Places.{count}
+use Rattle.reply_json.specs.Lines.{ends_of}
 use Rattle.reply_json.proofs.tokens.ranges_of.Given as given
 
 -- the numbers so far and those of the ranges that are left are all

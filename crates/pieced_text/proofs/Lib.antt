@@ -1,0 +1,2 @@
+mod DifferenceLemmas
+mod ChangeLemmas

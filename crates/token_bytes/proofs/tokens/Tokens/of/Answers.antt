@@ -1,0 +1,7 @@
+use Rattle.std.proofs.Common.{refl}
+use Rattle.token_bytes.specs.Items.{items}
+use Rattle.token_bytes.proofs.tokens.Tokens.of.Goals as goal
+
+pub returns-clause-items : goal.returns-clause-items
+unfolding items
+returns-clause-items c = refl
