@@ -20,7 +20,7 @@ use Rattle.expander_scope.proofs.TurnLemmas.{IsCall, call_is_call, call_smaller,
 use Rattle.call_expansion.specs.Around.{calls_in, place_of}
 use Rattle.call_expansion.specs.declared.around.CallPlace.{CallPlace}
 use Rattle.expander_trace.specs.Given.{given_in}
-use Rattle.expander_trace.specs.Kept.{step_in}
+use Rattle.expander_trace.specs.Numbered.{step_numbered}
 use Rattle.expander_trace.specs.Parts.{given_defines, may_define, part_of, part_within, room_behind}
 use Rattle.expander_trace.specs.Passing.{Adds, AddsBelow, IsAdded, Passes, by_table, known_steps, steps_under}
 use Rattle.expander_trace.specs.Steps.{Attempt, Step, attempt_at, call_steps, given_at, is_asked, steps_below}
@@ -141,7 +141,7 @@ module _ (grammar : Grammar) (s : table.Scope) (depth level : ℕ) (at : Option 
 
     -- its name finds nothing
     pub passes_unknown : (t new : Trace) (key : List ℕ) → Asked true → t.room.cut ≡ None → 0 < t.room.left.steps → key ≡ key_at f c → None ≡ scope_in s key
-        → map step_in new.steps.items ≡ map step_in t.steps.items ++ record { level = level; name = c.name.span; key = key; attempt = None } ∷ []
+        → map step_numbered new.steps.items ≡ map step_numbered t.steps.items ++ record { level = level; name = c.name.span; key = key; attempt = None } ∷ []
         → new.room.left ≡ record { steps = t.room.left.steps - 1; tokens = t.room.left.tokens - 0 } → new.room.cut ≡ t.room.cut
         → Passes (λ g. steps_under grammar s depth level at g) rules t new f c.from_group
     passes_unknown t new key h going steps is none pushed left same =
@@ -197,13 +197,13 @@ module _ (grammar : Grammar) (s : table.Scope) (depth level : ℕ) (rules : Scop
   adds_large new large same left off = adds_off rules t new cuts.Tokens _ (part_large rules t.room first_step (steps_below deep A.given) going steps large) same left off
 
   module _ (fits : nat_lt t.room.left.tokens A.tokens ≡ false) (mid : Trace) (got : Attempt Numbered) (is : got ≡ A)
-      (pushed : map step_in mid.steps.items ≡ map step_in t.steps.items ++ record { level = level; name = name; key = key; attempt = Some got } ∷ [])
+      (pushed : map step_numbered mid.steps.items ≡ map step_numbered t.steps.items ++ record { level = level; name = name; key = key; attempt = Some got } ∷ [])
       (left : mid.room.left ≡ record { steps = t.room.left.steps - 1; tokens = t.room.left.tokens - A.tokens }) (same : mid.room.cut ≡ t.room.cut) where
     abbrev own_left : Limits
     own_left = record { steps = t.room.left.steps - 1; tokens = t.room.left.tokens - A.tokens }
 
-    own_push : map step_in mid.steps.items ≡ map step_in t.steps.items ++ first_step ∷ []
-    own_push = pushed ∙ ap (λ (a : Attempt Numbered). map step_in t.steps.items ++ record { level = level; name = name; key = key; attempt = Some a } ∷ []) is
+    own_push : map step_numbered mid.steps.items ≡ map step_numbered t.steps.items ++ first_step ∷ []
+    own_push = pushed ∙ ap (λ (a : Attempt Numbered). map step_numbered t.steps.items ++ record { level = level; name = name; key = key; attempt = Some a } ∷ []) is
 
     -- it stays
     pub adds_stays : (kind : FaultKind) → A.given ≡ Err kind → Adds rules t mid (known_steps grammar s depth level name key whole argument d)

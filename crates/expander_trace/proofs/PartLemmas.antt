@@ -3,7 +3,7 @@ use Rattle.std.proofs.Common.{◌≡◌, ◌<◌, ◌∙◌, ℕ, List, [], ◌�
 use Rattle.std.specs.Prelude.{Option, Some, None, nat_eq, nat_lt}
 use Rattle.expander_model.specs.Held.{Numbered}
 use Rattle.expander_model.specs.declared.scope_rules.ScopeRules.{ScopeRules}
-use Rattle.expander_trace.specs.Kept.{step_in}
+use Rattle.expander_trace.specs.Numbered.{step_numbered}
 use Rattle.expander_trace.specs.Parts.{Part, cost_of, cut_off, part_of, part_within, room_behind, with_step}
 use Rattle.expander_trace.specs.Passing.{Adds, IsAdded}
 use Rattle.expander_trace.specs.Steps.{Step}
@@ -62,16 +62,16 @@ module _ (rules : ScopeRules) where
       let same : part_of rules mid.room b ≡ part_of rules p.room b = ap (λ r. part_of rules r b) f.room_is in
       record {
         steps_are = g.steps_are ∙ ap (λ xs. xs ++ (part_of rules mid.room b).steps) f.steps_are
-            ∙ append_assoc (map step_in old.steps.items) p.steps (part_of rules mid.room b).steps
-            ∙ ap (λ (r : Part Numbered). map step_in old.steps.items ++ (p.steps ++ r.steps)) same
-            ∙ ap (λ (r : Part Numbered). map step_in old.steps.items ++ r.steps) (sym e);
+            ∙ append_assoc (map step_numbered old.steps.items) p.steps (part_of rules mid.room b).steps
+            ∙ ap (λ (r : Part Numbered). map step_numbered old.steps.items ++ (p.steps ++ r.steps)) same
+            ∙ ap (λ (r : Part Numbered). map step_numbered old.steps.items ++ r.steps) (sym e);
         room_is = g.room_is ∙ ap (λ (r : Part Numbered). r.room) same ∙ ap (λ (r : Part Numbered). r.room) (sym e);
       }
 
   -- a part without steps that leaves all that is left
   adds_bare : (t : Trace) (p : Part Numbered) → p ≡ bare t.room.left t.room.cut → IsAdded t t p
   adds_bare t p e = record {
-    steps_are = sym (append-nil (map step_in t.steps.items)) ∙ ap (λ (q : Part Numbered). map step_in t.steps.items ++ q.steps) (sym e);
+    steps_are = sym (append-nil (map step_numbered t.steps.items)) ∙ ap (λ (q : Part Numbered). map step_numbered t.steps.items ++ q.steps) (sym e);
     room_is = ap (λ (q : Part Numbered). q.room) (sym e);
   }
 
@@ -89,7 +89,7 @@ module _ (rules : ScopeRules) where
   pub adds_off : (old new : Trace) (why : Cut) (p : Part Numbered) → p ≡ cut_off old.room.left why → new.steps ≡ old.steps → new.room.left ≡ old.room.left → new.room.cut ≡ Some why
       → IsAdded old new p
   adds_off old new why p e steps left c = record {
-    steps_are = ap (λ (v : _). map step_in v.items) steps ∙ sym (append-nil (map step_in old.steps.items)) ∙ ap (λ (q : Part Numbered). map step_in old.steps.items ++ q.steps) (sym e);
+    steps_are = ap (λ (v : _). map step_numbered v.items) steps ∙ sym (append-nil (map step_numbered old.steps.items)) ∙ ap (λ (q : Part Numbered). map step_numbered old.steps.items ++ q.steps) (sym e);
     room_is = (λ i. record { left = left i; cut = c i }) ∙ ap (λ (q : Part Numbered). q.room) (sym e);
   }
 
@@ -130,14 +130,14 @@ module _ (rules : ScopeRules) where
 
   -- a step was added, and then those behind it
   pub adds_step : (old mid new : Trace) (s : Step Numbered) (more : List (Step Numbered)) → old.room.cut ≡ None → 0 < old.room.left.steps
-      → nat_lt old.room.left.tokens (cost_of s.attempt) ≡ false → map step_in mid.steps.items ≡ map step_in old.steps.items ++ s ∷ []
+      → nat_lt old.room.left.tokens (cost_of s.attempt) ≡ false → map step_numbered mid.steps.items ≡ map step_numbered old.steps.items ++ s ∷ []
       → IsAdded mid new (behind_of old.room.left s more) → Adds rules old new (s ∷ more)
   adds_step old mid new s more e steps tokens pushed h =
       let q : Part Numbered = behind_of old.room.left s more in
       let is = part_first old.room s more e steps tokens in
       record {
-        steps_are = h.steps_are ∙ ap (λ xs. xs ++ q.steps) pushed ∙ append_assoc (map step_in old.steps.items) (s ∷ []) q.steps
-            ∙ ap (λ (r : Part Numbered). map step_in old.steps.items ++ r.steps) (sym is);
+        steps_are = h.steps_are ∙ ap (λ xs. xs ++ q.steps) pushed ∙ append_assoc (map step_numbered old.steps.items) (s ∷ []) q.steps
+            ∙ ap (λ (r : Part Numbered). map step_numbered old.steps.items ++ r.steps) (sym is);
         room_is = h.room_is ∙ ap (λ (r : Part Numbered). r.room) (sym is);
       }
 

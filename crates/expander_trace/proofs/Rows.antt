@@ -12,7 +12,7 @@ use Rattle.tt_data.specs.declared.span.Span.{Span}
 use Rattle.tt_data.specs.declared.span.SyntaxContext.TheVariants.{Written}
 use Rattle.expander_model.specs.declared.fault.FaultKind.TheVariants.{RecursionLimit}
 use Rattle.expander_model.specs.declared.scope_rules.ScopeRules.TheVariants.{Rust, TopLevel}
-use Rattle.expander_trace.specs.Laws.{find_of, put_steps}
+use Rattle.expander_trace.specs.Laws.{find_of, substitute_steps}
 use Rattle.expander_trace.specs.Parts.{may_define, part_within}
 use Rattle.expander_trace.specs.Steps.{Rewrites, Step, steps_of}
 use Rattle.expander_trace.specs.declared.limits.Cut.TheVariants as cuts
@@ -68,7 +68,7 @@ no_level = refl
 finds : find_of first ≡ (codes "a", Some 7)
 finds = refl
 
-in_its_place : put_steps 1 text (first ∷ second ∷ []) ≡ (inner, [])
+in_its_place : substitute_steps 1 text (first ∷ second ∷ []) ≡ (inner, [])
 in_its_place = refl
 
 -- one step alone, and tokens for none

@@ -17,12 +17,12 @@ use Rattle.expander_scope.specs.declared.scope.Scope as table
 use Rattle.call_expansion.specs.InScope.{HasInScope, met_alone}
 use Rattle.expander_model.proofs.DefinitionPlaceLemmas.{definition_piece}
 use Rattle.expander_scope.specs.MacroDefs.{definition_in as in_tree}
-use Rattle.expander_trace.specs.Given.{attempt_told, attempt_with, given_in, step_told, step_with, trace_in}
-use Rattle.expander_trace.specs.Kept.{attempt_in, step_in}
+use Rattle.expander_trace.specs.Given.{attempt_in, attempt_with, given_in, step_in, step_with, trace_in}
+use Rattle.expander_trace.specs.Numbered.{attempt_numbered, step_numbered}
 use Rattle.expander_trace.specs.Parts.{Part, attempt_defines, cost_of, cut_off, may_define, part_of, part_within, room_behind, with_step}
 use Rattle.expander_trace.specs.Passing.{Adds, numbered_by, steps_under}
 use Rattle.expander_trace.specs.Steps.{Attempt, Rewrites, Step, rewrites, steps_of}
-use Rattle.expander_trace.specs.Texts.{is_around, is_empty, is_last, is_spent, is_telling, member_part, plain_part, told, told_by_trees, traces_after, untraced}
+use Rattle.expander_trace.specs.Texts.{is_around, is_empty, is_last, is_spent, is_listed, member_part, plain_part, by_trees, listed, traces_after, untraced}
 use Rattle.expander_trace.specs.declared.limits.Cut.{Cut}
 use Rattle.expander_trace.specs.declared.limits.Cut.TheVariants as cuts
 use Rattle.expander_trace.specs.declared.limits.Limits.{Limits}
@@ -109,29 +109,29 @@ piece_is f = go (definition_of f) refl
     go None e = rw e refl
     go (Some d) e = rw e (definition_piece f d e)
 
-told_attempt : (o : Option code_attempt.Attempt) → option_map attempt_told o ≡ option_map (attempt_with numbered_piece) (option_map attempt_in o)
-told_attempt None = refl
-told_attempt (Some a) = λ i. Some (record { definition = sym (piece_is (rc_value a.known).tree.inner) i; call = a.call.inner; tokens = a.tokens; given = given_in a.given })
+same_attempt : (o : Option code_attempt.Attempt) → option_map attempt_in o ≡ option_map (attempt_with numbered_piece) (option_map attempt_numbered o)
+same_attempt None = refl
+same_attempt (Some a) = λ i. Some (record { definition = sym (piece_is (rc_value a.known).tree.inner) i; call = a.call.inner; tokens = a.tokens; given = given_in a.given })
 
-told_steps : (t : List code.Step) → map step_told t ≡ map (step_with numbered_piece) (map step_in t)
-told_steps [] = refl
-told_steps (s ∷ t) = λ i. record { level = s.level; name = s.name; key = s.key; attempt = told_attempt s.attempt i } ∷ told_steps t i
+same_steps : (t : List code.Step) → map step_in t ≡ map (step_with numbered_piece) (map step_numbered t)
+same_steps [] = refl
+same_steps (s ∷ t) = λ i. record { level = s.level; name = s.name; key = s.key; attempt = same_attempt s.attempt i } ∷ same_steps t i
 
--- what is told of parts does not look at definitions
+-- what is listed of parts does not look at definitions
 empty_same : {X Y : Type 0} (f : X → Y) (xs : List X) → is_empty (map f xs) ≡ is_empty xs
 empty_same f [] = refl
 empty_same f (x ∷ xs) = refl
 
-telling_same : (p : Part Definition) → is_telling (told_by_trees p) ≡ is_telling p
-telling_same p = ap (λ b. not b || is_some p.room.cut) (empty_same (step_with piece_of) p.steps)
+is_listed_same : (p : Part Definition) → is_listed (by_trees p) ≡ is_listed p
+is_listed_same p = ap (λ b. not b || is_some p.room.cut) (empty_same (step_with piece_of) p.steps)
 
-last_same : (at : Option ℕ) (p : Part Definition) → is_last at (told_by_trees p) ≡ is_last at p
-last_same at p = ap (λ b. (is_some at && b) || is_spent p.room.cut) (telling_same p)
+last_same : (at : Option ℕ) (p : Part Definition) → is_last at (by_trees p) ≡ is_last at p
+last_same at p = ap (λ b. (is_some at && b) || is_spent p.room.cut) (is_listed_same p)
 
-told_same : (p : Part Definition) (more : List (Part Definition)) → told (told_by_trees p) (map told_by_trees more) ≡ map told_by_trees (told p more)
-told_same p more = ap (λ b. if b then told_by_trees p ∷ map told_by_trees more else map told_by_trees more) (telling_same p) ∙ go (is_telling p)
+listed_same : (p : Part Definition) (more : List (Part Definition)) → listed (by_trees p) (map by_trees more) ≡ map by_trees (listed p more)
+listed_same p more = ap (λ b. if b then by_trees p ∷ map by_trees more else map by_trees more) (is_listed_same p) ∙ go (is_listed p)
   where
-    go : (b : Bool) → (if b then told_by_trees p ∷ map told_by_trees more else map told_by_trees more) ≡ map told_by_trees (if b then p ∷ more else more)
+    go : (b : Bool) → (if b then by_trees p ∷ map by_trees more else map by_trees more) ≡ map by_trees (if b then p ∷ more else more)
     go true = refl
     go false = refl
 
@@ -143,32 +143,32 @@ module _ (grammar : Grammar) (edition : Edition) (dialect : Dialect) (depth : �
 
   module _ (left : Limits) (before : List Definition) (piece : Forest) where
     -- a definition
-    pub of_definition : (o : Option Definition) (t : Trace) → is_some o ≡ true → t.steps.items ≡ [] → t.room ≡ record { left = left; cut = None } → trace_in t ≡ told_by_trees (member_part by dialect depth at left before piece o)
+    pub of_definition : (o : Option Definition) (t : Trace) → is_some o ≡ true → t.steps.items ≡ [] → t.room ≡ record { left = left; cut = None } → trace_in t ≡ by_trees (member_part by dialect depth at left before piece o)
     of_definition None t e none room = cc
-    of_definition (Some d) t e none room = λ i. record { steps = map step_told (none i); room = room i }
+    of_definition (Some d) t e none room = λ i. record { steps = map step_in (none i); room = room i }
 
     plain_is : (o : Option Definition) → is_some o ≡ false → member_part by dialect depth at left before piece o ≡ plain_part by dialect depth at left before piece
     plain_is None e = refl
     plain_is (Some d) e = cc
 
-    over : (b : Bool) → ◌≡◌ {A = Part Forest} (record { steps = []; room = record { left = left; cut = if b then Some cuts.Definitions else None } }) (told_by_trees (if b then cut_off left cuts.Definitions else untraced left))
+    over : (b : Bool) → ◌≡◌ {A = Part Forest} (record { steps = []; room = record { left = left; cut = if b then Some cuts.Definitions else None } }) (by_trees (if b then cut_off left cuts.Definitions else untraced left))
     over true = refl
     over false = refl
 
     -- one that may have definitions
     pub of_lists : (o : Option Definition) (t : Trace) → is_some o ≡ false → may_define dialect.scope piece ≡ true → t.steps.items ≡ [] → t.room.left ≡ left
-        → t.room.cut ≡ (if is_around at piece then Some cuts.Definitions else None) → trace_in t ≡ told_by_trees (member_part by dialect depth at left before piece o)
+        → t.room.cut ≡ (if is_around at piece then Some cuts.Definitions else None) → trace_in t ≡ by_trees (member_part by dialect depth at left before piece o)
     of_lists o t e may none room c =
-        (λ i. record { steps = map step_told (none i); room = record { left = room i; cut = c i } })
+        (λ i. record { steps = map step_in (none i); room = record { left = room i; cut = c i } })
         ∙ over (is_around at piece)
-        ∙ ap (λ b. told_by_trees (if b then (if is_around at piece then cut_off left cuts.Definitions else untraced left)
+        ∙ ap (λ b. by_trees (if b then (if is_around at piece then cut_off left cuts.Definitions else untraced left)
         else part_within dialect.scope left None (steps_of by (found_in dialect before) depth 0 at piece))) (sym may)
-        ∙ ap told_by_trees (sym (plain_is o e))
+        ∙ ap by_trees (sym (plain_is o e))
 
     -- another
     pub of_plain : (s : table.Scope) (o : Option Definition) (old t : Trace) → s.edition ≡ edition → HasInScope dialect s before → is_some o ≡ false → may_define dialect.scope piece ≡ false
         → old.steps.items ≡ [] → old.room ≡ record { left = left; cut = None } → Adds dialect.scope old t (steps_under grammar s depth 0 at piece)
-        → trace_in t ≡ told_by_trees (member_part by dialect depth at left before piece o)
+        → trace_in t ≡ by_trees (member_part by dialect depth at left before piece o)
     of_plain s o old t same has e may none room adds =
         let agrees : Agrees unnumbered by (numbered_by by) (found_in dialect before) (scope_in s) = record {
           broken = λ d. ap by.broken (definition_with-same d);
@@ -182,13 +182,13 @@ module _ (grammar : Grammar) (edition : Edition) (dialect : Dialect) (depth : �
         ap (λ x. steps_of (numbered_by (rewrites grammar x)) (scope_in s) depth 0 at piece) same ∙ same_steps unnumbered by (numbered_by by) (found_in dialect before) (scope_in s) agrees depth 0 at piece in
         let part : part_of dialect.scope old.room (steps_under grammar s depth 0 at piece) ≡ renamed_part unnumbered dialect.scope p =
         ap (λ r. part_of dialect.scope r (steps_under grammar s depth 0 at piece)) room ∙ ap (part_within dialect.scope left None) steps ∙ part_same unnumbered dialect.scope left None plain in
-        let items : map step_told t.steps.items ≡ map (step_with piece_of) p.steps =
-        told_steps t.steps.items ∙ ap (map (step_with numbered_piece)) (adds.steps_are ∙ ap (λ xs. map step_in xs ++ (part_of dialect.scope old.room (steps_under grammar s depth 0 at piece)).steps) none
+        let items : map step_in t.steps.items ≡ map (step_with piece_of) p.steps =
+        same_steps t.steps.items ∙ ap (map (step_with numbered_piece)) (adds.steps_are ∙ ap (λ xs. map step_numbered xs ++ (part_of dialect.scope old.room (steps_under grammar s depth 0 at piece)).steps) none
         ∙ ap (λ (q : Part Numbered). q.steps) part) ∙ steps_back p.steps in
         let end : t.room ≡ p.room = adds.room_is ∙ ap (λ (q : Part Numbered). q.room) part in
         (λ i. record { steps = items i; room = end i })
-        ∙ ap (λ b. told_by_trees (if b then (if is_around at piece then cut_off left cuts.Definitions else untraced left) else p)) (sym may)
-        ∙ ap told_by_trees (sym (plain_is o e))
+        ∙ ap (λ b. by_trees (if b then (if is_around at piece then cut_off left cuts.Definitions else untraced left) else p)) (sym may)
+        ∙ ap by_trees (sym (plain_is o e))
 
   -- ---- the pieces that are left
 
@@ -197,7 +197,7 @@ module _ (grammar : Grammar) (edition : Edition) (dialect : Dialect) (depth : �
 
   -- a piece that ends the traces, or does not
   module _ (left : Limits) (before : List Definition) (p : Forest) (ps : List Forest) (t : Trace)
-      (is : trace_in t ≡ told_by_trees (member_part by dialect depth at left before p (definition_of p))) where
+      (is : trace_in t ≡ by_trees (member_part by dialect depth at left before p (definition_of p))) where
     abbrev own : Part Definition
     own = member_part by dialect depth at left before p (definition_of p)
 
@@ -207,43 +207,43 @@ module _ (grammar : Grammar) (edition : Edition) (dialect : Dialect) (depth : �
     is_last_one : (b : Bool) → is_last at (trace_in t) ≡ b → is_last at own ≡ b
     is_last_one b e = sym (last_same at own) ∙ sym (ap (is_last at) is) ∙ e
 
-    pub traces_last : is_last at (trace_in t) ≡ true → told (trace_in t) [] ≡ map told_by_trees (all_traces left before (p ∷ ps))
+    pub traces_last : is_last at (trace_in t) ≡ true → listed (trace_in t) [] ≡ map by_trees (all_traces left before (p ∷ ps))
     traces_last e =
-        ap (λ q. told q []) is ∙ told_same own []
-        ∙ ap (λ b. map told_by_trees (told own (if b then [] else rest_of own.room.left))) (sym (is_last_one true e))
+        ap (λ q. listed q []) is ∙ listed_same own []
+        ∙ ap (λ b. map by_trees (listed own (if b then [] else rest_of own.room.left))) (sym (is_last_one true e))
 
-    pub traces_more : is_last at (trace_in t) ≡ false → told (trace_in t) (map told_by_trees (rest_of t.room.left)) ≡ map told_by_trees (all_traces left before (p ∷ ps))
+    pub traces_more : is_last at (trace_in t) ≡ false → listed (trace_in t) (map by_trees (rest_of t.room.left)) ≡ map by_trees (all_traces left before (p ∷ ps))
     traces_more e =
-        ap (λ (q : Part Forest). told q (map told_by_trees (rest_of q.room.left))) is ∙ told_same own (rest_of own.room.left)
-        ∙ ap (λ b. map told_by_trees (told own (if b then [] else rest_of own.room.left))) (sym (is_last_one false e))
+        ap (λ (q : Part Forest). listed q (map by_trees (rest_of q.room.left))) is ∙ listed_same own (rest_of own.room.left)
+        ∙ ap (λ b. map by_trees (listed own (if b then [] else rest_of own.room.left))) (sym (is_last_one false e))
 
   -- one more piece, behind which others are traced
   pub trace_goes : (left : Limits) (now : List Definition) (p : Forest) (olds_left news_left : List Forest) (t : Trace) (olds news all : List (Part Forest)) → olds_left ≡ p ∷ news_left
-      → trace_in t ≡ told_by_trees (member_part by dialect depth at left now p (definition_of p)) → ((more : List (Part Forest)) → news ++ more ≡ olds ++ told (trace_in t) more)
-      → is_last at (trace_in t) ≡ false → olds ++ map told_by_trees (all_traces left now olds_left) ≡ all
-      → news ++ map told_by_trees (all_traces t.room.left (with_definition (definition_of p) now) news_left) ≡ all
+      → trace_in t ≡ by_trees (member_part by dialect depth at left now p (definition_of p)) → ((more : List (Part Forest)) → news ++ more ≡ olds ++ listed (trace_in t) more)
+      → is_last at (trace_in t) ≡ false → olds ++ map by_trees (all_traces left now olds_left) ≡ all
+      → news ++ map by_trees (all_traces t.room.left (with_definition (definition_of p) now) news_left) ≡ all
   trace_goes left now p olds_left news_left t olds news all first is adds more e =
-      adds (map told_by_trees (all_traces t.room.left (with_definition (definition_of p) now) news_left)) ∙ ap (λ xs. olds ++ xs) (traces_more left now p news_left t is more)
-      ∙ ap (λ ps. olds ++ map told_by_trees (all_traces left now ps)) (sym first) ∙ e
+      adds (map by_trees (all_traces t.room.left (with_definition (definition_of p) now) news_left)) ∙ ap (λ xs. olds ++ xs) (traces_more left now p news_left t is more)
+      ∙ ap (λ ps. olds ++ map by_trees (all_traces left now ps)) (sym first) ∙ e
 
   -- the last that is traced
   pub trace_ends : (left : Limits) (now : List Definition) (p : Forest) (olds_left news_left : List Forest) (t : Trace) (olds news all : List (Part Forest)) → olds_left ≡ p ∷ news_left
-      → trace_in t ≡ told_by_trees (member_part by dialect depth at left now p (definition_of p)) → ((more : List (Part Forest)) → news ++ more ≡ olds ++ told (trace_in t) more)
-      → is_last at (trace_in t) ≡ true → olds ++ map told_by_trees (all_traces left now olds_left) ≡ all → news ≡ all
+      → trace_in t ≡ by_trees (member_part by dialect depth at left now p (definition_of p)) → ((more : List (Part Forest)) → news ++ more ≡ olds ++ listed (trace_in t) more)
+      → is_last at (trace_in t) ≡ true → olds ++ map by_trees (all_traces left now olds_left) ≡ all → news ≡ all
   trace_ends left now p olds_left news_left t olds news all first is adds last e =
       sym (append-nil news) ∙ adds [] ∙ ap (λ xs. olds ++ xs) (traces_last left now p news_left t is last)
-      ∙ ap (λ ps. olds ++ map told_by_trees (all_traces left now ps)) (sym first) ∙ e
+      ∙ ap (λ ps. olds ++ map by_trees (all_traces left now ps)) (sym first) ∙ e
 
   -- no piece is left
-  pub trace_done : (left : Limits) (now : List Definition) (rest : List Forest) (olds all : List (Part Forest)) → rest ≡ [] → olds ++ map told_by_trees (all_traces left now rest) ≡ all → olds ≡ all
-  trace_done left now rest olds all none e = sym (append-nil olds) ∙ ap (λ ps. olds ++ map told_by_trees (all_traces left now ps)) (sym none) ∙ e
+  pub trace_done : (left : Limits) (now : List Definition) (rest : List Forest) (olds all : List (Part Forest)) → rest ≡ [] → olds ++ map by_trees (all_traces left now rest) ≡ all → olds ≡ all
+  trace_done left now rest olds all none e = sym (append-nil olds) ∙ ap (λ ps. olds ++ map by_trees (all_traces left now ps)) (sym none) ∙ e
 
--- ---- what is told
+-- ---- what is listed
 
-pub told_is : (b : Bool) (traces more : List (Part Forest)) (p : Part Forest) → b ≡ true → (traces ++ p ∷ []) ++ more ≡ traces ++ (if b then p ∷ more else more)
-told_is true traces more p e = append_assoc traces (p ∷ []) more
-told_is false traces more p e = cc
+pub listed_is : (b : Bool) (traces more : List (Part Forest)) (p : Part Forest) → b ≡ true → (traces ++ p ∷ []) ++ more ≡ traces ++ (if b then p ∷ more else more)
+listed_is true traces more p e = append_assoc traces (p ∷ []) more
+listed_is false traces more p e = cc
 
-pub untold_is : (b : Bool) (traces more : List (Part Forest)) (p : Part Forest) → b ≡ false → traces ++ more ≡ traces ++ (if b then p ∷ more else more)
-untold_is false traces more p e = refl
-untold_is true traces more p e = cc
+pub unlisted_is : (b : Bool) (traces more : List (Part Forest)) (p : Part Forest) → b ≡ false → traces ++ more ≡ traces ++ (if b then p ∷ more else more)
+unlisted_is false traces more p e = refl
+unlisted_is true traces more p e = cc

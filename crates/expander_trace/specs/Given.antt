@@ -1,4 +1,4 @@
--- The values of the code as steps. A definition is told by its trees.
+-- The values of the code as steps, with the trees of definitions.
 use Rattle.std.specs.Prelude.{ℕ, map, option_map, Result, Ok, Err}
 use Rattle.std.specs.Rc.{rc_value}
 use Rattle.tt_data.specs.Forest.{Forest}
@@ -16,24 +16,24 @@ given_in (Ok given) = Ok (given.rule, (rc_value given.tree).inner)
 given_in (Err kind) = Err kind
 
 -- a call of a definition
-abbrev pub attempt_told : Attempt → spec.Attempt Forest
-attempt_told a = record {
+abbrev pub attempt_in : Attempt → spec.Attempt Forest
+attempt_in a = record {
   definition = (rc_value a.known).tree.inner;
   call = a.call.inner;
   tokens = a.tokens;
   given = given_in a.given;
 }
 
-abbrev pub step_told : Step → spec.Step Forest
-step_told s = record {
+abbrev pub step_in : Step → spec.Step Forest
+step_in s = record {
   level = s.level;
   name = s.name;
   key = s.key;
-  attempt = option_map attempt_told s.attempt;
+  attempt = option_map attempt_in s.attempt;
 }
 
 abbrev pub trace_in : Trace → Part Forest
-trace_in t = record { steps = map step_told t.steps.items; room = t.room }
+trace_in t = record { steps = map step_in t.steps.items; room = t.room }
 
 -- steps with another value for each definition
 abbrev pub attempt_with : {D E : Type 0} → (D → E) → spec.Attempt D → spec.Attempt E

@@ -6,5 +6,5 @@ pub mod Laws
 pub mod Texts
 -- what the functions inside the crate promise each other
 pub mod Trying
-pub mod Kept
+pub mod Numbered
 pub mod Passing

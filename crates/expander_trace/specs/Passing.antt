@@ -10,7 +10,7 @@ use Rattle.expander_model.specs.declared.tree_walk.TreeWalk.{TreeWalk}
 use Rattle.mbe.specs.Grammar.{Grammar}
 use Rattle.expander_scope.specs.ScopeTable.{scope_in}
 use Rattle.expander_scope.specs.declared.scope.Scope as table
-use Rattle.expander_trace.specs.Kept.{step_in}
+use Rattle.expander_trace.specs.Numbered.{step_numbered}
 use Rattle.tt_data.specs.declared.span.Span.{Span}
 use Rattle.expander_trace.specs.Parts.{Part, cut_off, may_define, part_of}
 use Rattle.expander_trace.specs.Steps.{Rewrites, Step, call_steps, rewrites, steps_of}
@@ -42,7 +42,8 @@ known_steps grammar s depth level name key whole argument d =
 
 -- a part was added to a trace
 pub record IsAdded (old new : Trace) (part : Part Numbered) : Type 0 where
-  pub steps_are : map step_in new.steps.items ≡ map step_in old.steps.items ++ part.steps
+  pub steps_are : map step_numbered new.steps.items
+      ≡ map step_numbered old.steps.items ++ part.steps
   pub room_is : new.room ≡ part.room
 
 -- these steps were added to a trace, as far as there is room for them

@@ -90,8 +90,8 @@ module _ {D : Type 0} (by : Rewrites D) where
     given = given_at d depth argument;
   }
 
-  -- `scope` is what names find, `level` in how many calls the trees are, `depth` how many levels are
-  -- left, and `deeper` gives the steps of what a call gives
+  -- `scope` is what names find, `level` in how many calls the trees are, `depth` how many levels
+  -- are left, and `deeper` gives the steps of what a call gives
   module _ (scope : List ℕ → Option D) (level depth : ℕ) (deeper : Forest → List (Step D)) where
     -- the steps of a call, where `kept` are those in its group: these if its name finds nothing,
     -- and else those in what it gives

@@ -1,5 +1,5 @@
--- The traces of a text: the steps of its pieces, each in the scope of the definitions before it. (Of
--- this project.)
+-- The traces of a text: the steps of its pieces, each in the scope of the definitions before it.
+-- (Of this project.)
 use Rattle.std.specs.Prelude.{◌≡◌, ℕ, Bool, true, false, ◌&&◌, ◌||◌, not, List, [], ◌∷◌, map, Option, Some, None, is_some, Result, Ok, Err, if◌then◌else◌}
 use Rattle.tt_data.specs.Forest.{Forest}
 use Rattle.bridge.specs.declared.reading.outcome.ReadFault.{ReadFault}
@@ -31,12 +31,12 @@ is_around (Some at) piece = not (is_empty (calls_around at piece))
 abbrev pub untraced : {D : Type 0} → Limits → Part D
 untraced left = record { steps = []; room = record { left = left; cut = None } }
 
--- steps are told, or that they were cut
-abbrev pub is_telling : {D : Type 0} → Part D → Bool
-is_telling p = not (is_empty p.steps) || is_some p.room.cut
+-- a part is listed: it has steps, or is cut
+abbrev pub is_listed : {D : Type 0} → Part D → Bool
+is_listed p = not (is_empty p.steps) || is_some p.room.cut
 
-abbrev pub told : {D : Type 0} → Part D → List (Part D) → List (Part D)
-told p more = if is_telling p then p ∷ more else more
+abbrev pub listed : {D : Type 0} → Part D → List (Part D) → List (Part D)
+listed p more = if is_listed p then p ∷ more else more
 
 -- a limit is passed
 abbrev pub is_spent : Option Cut → Bool
@@ -46,11 +46,11 @@ is_spent _ = false
 
 -- no piece is traced behind this: it tells of the calls at a byte, or a limit is passed
 abbrev pub is_last : {D : Type 0} → Option ℕ → Part D → Bool
-is_last at p = (is_some at && is_telling p) || is_spent p.room.cut
+is_last at p = (is_some at && is_listed p) || is_spent p.room.cut
 
--- a definition is told by its trees
-abbrev pub told_by_trees : Part Definition → Part Forest
-told_by_trees p = part_with (λ d. d.piece) p
+-- for each definition its trees
+abbrev pub by_trees : Part Definition → Part Forest
+by_trees p = part_with (λ d. d.piece) p
 
 module _ (by : Rewrites Definition) (dialect : Dialect) (depth : ℕ) (at : Option ℕ) where
   -- the steps of a piece that is no definition, after these definitions: none where it may have
@@ -73,12 +73,12 @@ module _ (by : Rewrites Definition) (dialect : Dialect) (depth : ℕ) (at : Opti
   traces_after left before (p ∷ ps) =
       let d : Option Definition = definition_of p in
       let part : Part Definition = member_part left before p d in
-      told part (if is_last at part then []
+      listed part (if is_last at part then []
       else traces_after part.room.left (with_definition d before) ps)
 
   -- this is found in a text that is read so, after these definitions
   abbrev pub IsTracedIn : Limits → List Definition → Result Forest ReadFault → Found → Type 0
   IsTracedIn left initial (Err fault) (Unread other) = fault ≡ other
   IsTracedIn left initial (Ok f) (Traces traces) =
-      map trace_in traces.items ≡ map told_by_trees (traces_after left initial (pieces f))
+      map trace_in traces.items ≡ map by_trees (traces_after left initial (pieces f))
   IsTracedIn left initial read found = ⊥

@@ -11,7 +11,7 @@ ghost use Rattle.expander_model.specs.Expansion.{World, expansion};
 ghost use Rattle.expander_model.specs.Limits.{expanded};
 ghost use Rattle.expander_model.specs.World.{world};
 ghost use Rattle.expander_model.specs.declared.dialect.Dialect.{Dialect};
-ghost use Rattle.expander_trace.specs.Laws.{DoAs, events_of, faults_of, find_of, put_steps};
+ghost use Rattle.expander_trace.specs.Laws.{DoAs, events_of, faults_of, find_of, substitute_steps};
 ghost use Rattle.expander_trace.specs.Steps.{Rewrites, rewrites, steps_of};
 
 /// Where definitions do what they mean in a world, the look-ups of the steps of trees are those of
@@ -32,12 +32,13 @@ pub fn steps_are_those_of_the_expansion()
     ensures trees { (by : Rewrites Definition) (world : World Definition)
         (scope : List ℕ → Option Definition) (depth level : ℕ) (outer : Option Span)
         (f : Forest) → DoAs by world → (g : Forest)
-        × ((put_steps depth f (steps_of by scope depth level None f) ≡ (g, []))
+        × ((substitute_steps depth f (steps_of by scope depth level None f) ≡ (g, []))
         × (walk g ≡ events_of (expansion world scope depth outer f))) }
 {}
 
-/// The definitions of a text do what they mean there: `means`. Where names find the top level alone,
-/// no option is set and nothing limits a call, this expansion is that of the text: `top_level`.
+/// The definitions of a text do what they mean there: `means`. Where names find the top level
+/// alone, no option is set and nothing limits a call, this expansion is that of the text:
+/// `top_level`.
 pub fn definitions_do_what_they_mean()
     ensures means { (grammar : Grammar) (edition : Edition) (dialect : Dialect) →
         DoAs (rewrites grammar edition) (world grammar edition dialect) }

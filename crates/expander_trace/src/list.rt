@@ -10,7 +10,7 @@ ghost use Rattle.expander_scope.specs.Outcomes.{numbered_of_known};
 ghost use Rattle.expander_scope.specs.ScopeTable.{AreRead, scope_in};
 ghost use Rattle.call_expansion.specs.Around.{calls_in};
 ghost use Rattle.call_expansion.specs.declared.around.CallPlace.{CallPlace};
-ghost use Rattle.expander_trace.specs.Kept.{step_in};
+ghost use Rattle.expander_trace.specs.Numbered.{step_numbered};
 ghost use Rattle.expander_trace.specs.Parts.{may_define};
 ghost use Rattle.expander_trace.specs.Passing.{Adds, AddsBelow, Passes, known_steps, steps_under};
 ghost use Rattle.expander_trace.specs.Steps.{is_asked};
@@ -87,8 +87,8 @@ fn find<G>(by: &Tracing<'_, G>, key: &Symbol) -> Result<Option<Rc<MacroDef>>, Al
 fn push(trace: &mut Trace, step: Step, spent: usize) -> Result<(), AllocError>
     requires steps { 0 < trace.old.room.left.steps }
     requires spent { spent ≤ trace.old.room.left.tokens }
-    ensures steps { OnOk result (map step_in trace.new.steps.items
-        ≡ map step_in trace.old.steps.items ++ step_in step ∷ []) }
+    ensures steps { OnOk result (map step_numbered trace.new.steps.items
+        ≡ map step_numbered trace.old.steps.items ++ step_numbered step ∷ []) }
     ensures left { OnOk result (trace.new.room.left ≡ record {
       steps = trace.old.room.left.steps - 1;
       tokens = trace.old.room.left.tokens - spent;

@@ -13,8 +13,8 @@ ghost use Rattle.call_expansion.specs.InScope.{HasInScope};
 ghost use Rattle.expander_trace.specs.Given.{trace_in};
 ghost use Rattle.expander_trace.specs.Parts.{Part};
 ghost use Rattle.expander_trace.specs.Steps.{rewrites};
-ghost use Rattle.expander_trace.specs.Texts.{IsTracedIn, is_around, is_last, is_telling};
-ghost use Rattle.expander_trace.specs.Texts.{member_part, told, told_by_trees, traces_after};
+ghost use Rattle.expander_trace.specs.Texts.{IsTracedIn, is_around, is_last, is_listed};
+ghost use Rattle.expander_trace.specs.Texts.{member_part, by_trees, listed, traces_after};
 ghost use Rattle.expander_trace.specs.declared.limits.Cut.TheVariants.{Definitions};
 
 use crate::limits::{Cut, Limits, Room};
@@ -40,8 +40,8 @@ use tt_data::TtFault;
 pub enum Found {
     /// The text cannot be read as trees.
     Unread(ReadFault),
-    /// The traces of its pieces, in order, each with its room behind it. A piece of which nothing
-    /// is to be told has none.
+    /// The traces of its pieces, in order, each with its room behind it. A piece without steps that
+    /// is not cut has none.
     Traces(Vec<Trace>),
 }
 
@@ -125,7 +125,7 @@ fn piece_trace<G: FragmentGrammar>(
     requires edition { scope.now.edition ≡ by.now.edition }
     ensures trace { (before : List Definition) →
         HasInScope by.now.dialect.now scope.now before → IfOk result (λ t. trace_in t
-        ≡ told_by_trees (member_part (rewrites (G.answer by.now.grammar.now) by.now.edition)
+        ≡ by_trees (member_part (rewrites (G.answer by.now.grammar.now) by.now.edition)
         by.now.dialect.now by.now.depth at left before piece.now (definition_of piece.now))) }
     ensures memory { IsOkUnless result fault.Memory }
 {
@@ -143,8 +143,8 @@ fn piece_trace<G: FragmentGrammar>(
 }
 
 // Whether there is something to tell of a trace.
-fn is_telling(trace: &Trace) -> bool
-    ensures { result ≡ is_telling (trace_in trace.now) }
+fn is_listed(trace: &Trace) -> bool
+    ensures { result ≡ is_listed (trace_in trace.now) }
 {
     !trace.steps.is_empty() || trace.room.cut.is_some()
 }
@@ -153,7 +153,7 @@ fn is_telling(trace: &Trace) -> bool
 fn is_last(at: Option<u32>, trace: &Trace) -> bool
     ensures { result ≡ is_last at (trace_in trace.now) }
 {
-    if at.is_some() && is_telling(trace) {
+    if at.is_some() && is_listed(trace) {
         return true;
     }
     match trace.room.cut {
@@ -163,12 +163,12 @@ fn is_last(at: Option<u32>, trace: &Trace) -> bool
 }
 
 // Adds a trace, if there is something to tell of it.
-fn add_told(traces: &mut Vec<Trace>, trace: Trace) -> Result<(), AllocError>
+fn add_listed(traces: &mut Vec<Trace>, trace: Trace) -> Result<(), AllocError>
     ensures { OnOk result ((more : List (Part Forest)) →
         map trace_in traces.new.items ++ more
-        ≡ map trace_in traces.old.items ++ told (trace_in trace) more) }
+        ≡ map trace_in traces.old.items ++ listed (trace_in trace) more) }
 {
-    if is_telling(&trace) {
+    if is_listed(&trace) {
         traces.push(trace)?;
     }
     Ok(())
@@ -187,7 +187,7 @@ fn trace_pieces<G: FragmentGrammar>(
     requires edition { scope.old.edition ≡ by.now.edition }
     ensures traces { (before : List Definition) →
         HasInScope by.now.dialect.now scope.old before → IfOk result (λ ts. map trace_in ts.items
-        ≡ map told_by_trees
+        ≡ map by_trees
         (traces_after (rewrites (G.answer by.now.grammar.now) by.now.edition)
         by.now.dialect.now by.now.depth at limits before (cut trees.now))) }
     ensures memory { IsOkUnless result fault.Memory }
@@ -199,7 +199,7 @@ fn trace_pieces<G: FragmentGrammar>(
         let trace = piece_trace(alloc, by, scope, &piece, at, left)?;
         left = trace.room.left;
         let last = is_last(at, &trace);
-        add_told(&mut traces, trace)?;
+        add_listed(&mut traces, trace)?;
         if last {
             return Ok(traces);
         }

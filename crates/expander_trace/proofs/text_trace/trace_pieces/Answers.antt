@@ -4,7 +4,7 @@ use Rattle.expander_model.specs.Meaning.{with_definition}
 use Rattle.expander_model.specs.Pieces.{cut}
 use Rattle.expander_trace.specs.Given.{trace_in}
 use Rattle.expander_trace.specs.Steps.{rewrites}
-use Rattle.expander_trace.specs.Texts.{told_by_trees, traces_after}
+use Rattle.expander_trace.specs.Texts.{by_trees, traces_after}
 use Rattle.expander_trace.proofs.TextLemmas.{trace_done, trace_ends, trace_goes}
 use Rattle.expander_trace.proofs.text_trace.trace_pieces.Goals as goal
 
@@ -15,8 +15,8 @@ loop-piece-init g c = record {
   left = λ before has. (
     before,
     has,
-    ap (λ ts. map trace_in ts ++ map told_by_trees (traces_after (rewrites (g.G.FragmentGrammar.answer c.args.by.now.grammar.now) c.args.by.now.edition) c.args.by.now.dialect.now c.args.by.now.depth c.args.at c.args.limits before (cut c.copied-rest.result))) c.new-traces.ensures.items
-        ∙ ap (λ f. map told_by_trees (traces_after (rewrites (g.G.FragmentGrammar.answer c.args.by.now.grammar.now) c.args.by.now.edition) c.args.by.now.dialect.now c.args.by.now.depth c.args.at c.args.limits before (cut f))) c.copied-rest.ensures,
+    ap (λ ts. map trace_in ts ++ map by_trees (traces_after (rewrites (g.G.FragmentGrammar.answer c.args.by.now.grammar.now) c.args.by.now.edition) c.args.by.now.dialect.now c.args.by.now.depth c.args.at c.args.limits before (cut c.copied-rest.result))) c.new-traces.ensures.items
+        ∙ ap (λ f. map by_trees (traces_after (rewrites (g.G.FragmentGrammar.answer c.args.by.now.grammar.now) c.args.by.now.edition) c.args.by.now.dialect.now c.args.by.now.depth c.args.at c.args.limits before (cut f))) c.copied-rest.ensures,
   );
 }
 
@@ -25,8 +25,8 @@ returns-then-last-clause-traces g c = λ before has.
     let l = c.loop-piece.invariant.left before has in
     let says : c.is_last-last.result ≡ true = search rules in
     trace_ends (g.G.FragmentGrammar.answer c.args.by.now.grammar.now) c.args.by.now.edition c.args.by.now.dialect.now c.args.by.now.depth c.args.at
-    c.loop-piece.left l.0 c.in-Some.piece (cut c.loop-piece.rest) (cut c.next_piece.new.rest) c.in_ok-trace.trace _ (map trace_in c.add_told.new.traces.items) _
-    c.in-Some.ensures.0 (c.in_ok-trace.ensures.trace l.0 l.1) c.in_ok-add_told.ensures (sym c.is_last-last.ensures ∙ says) l.2
+    c.loop-piece.left l.0 c.in-Some.piece (cut c.loop-piece.rest) (cut c.next_piece.new.rest) c.in_ok-trace.trace _ (map trace_in c.add_listed.new.traces.items) _
+    c.in-Some.ensures.0 (c.in_ok-trace.ensures.trace l.0 l.1) c.in_ok-add_listed.ensures (sym c.is_last-last.ensures ∙ says) l.2
 
 pub loop-piece-preserved : goal.loop-piece-preserved
 loop-piece-preserved g c = record {
@@ -38,8 +38,8 @@ loop-piece-preserved g c = record {
         with_definition (definition_of c.in-Some.piece) l.0,
         c.in_ok-define.ensures.met l.0 l.1,
         trace_goes (g.G.FragmentGrammar.answer c.args.by.now.grammar.now) c.args.by.now.edition c.args.by.now.dialect.now c.args.by.now.depth c.args.at
-            c.loop-piece.left l.0 c.in-Some.piece (cut c.loop-piece.rest) (cut c.next_piece.new.rest) c.in_ok-trace.trace _ (map trace_in c.add_told.new.traces.items) _
-            c.in-Some.ensures.0 (c.in_ok-trace.ensures.trace l.0 l.1) c.in_ok-add_told.ensures (sym c.is_last-last.ensures ∙ says) l.2,
+            c.loop-piece.left l.0 c.in-Some.piece (cut c.loop-piece.rest) (cut c.next_piece.new.rest) c.in_ok-trace.trace _ (map trace_in c.add_listed.new.traces.items) _
+            c.in-Some.ensures.0 (c.in_ok-trace.ensures.trace l.0 l.1) c.in_ok-add_listed.ensures (sym c.is_last-last.ensures ∙ says) l.2,
       );
 }
 

@@ -9,18 +9,18 @@ use Rattle.expander_trace.specs.declared.step.Attempt.{Attempt}
 use Rattle.expander_trace.specs.declared.step.Step.{Step}
 
 -- a call of a definition
-abbrev pub attempt_in : Attempt → spec.Attempt Numbered
-attempt_in a = record {
+abbrev pub attempt_numbered : Attempt → spec.Attempt Numbered
+attempt_numbered a = record {
   definition = numbered_of_known (rc_value a.known);
   call = a.call.inner;
   tokens = a.tokens;
   given = given_in a.given;
 }
 
-abbrev pub step_in : Step → spec.Step Numbered
-step_in s = record {
+abbrev pub step_numbered : Step → spec.Step Numbered
+step_numbered s = record {
   level = s.level;
   name = s.name;
   key = s.key;
-  attempt = option_map attempt_in s.attempt;
+  attempt = option_map attempt_numbered s.attempt;
 }
