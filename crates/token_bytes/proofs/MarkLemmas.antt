@@ -235,7 +235,7 @@ removed p ts bytes table packed is some =
           (h.table_is ∙ sym (table_after-append [] a b)));
     }
 
--- what a record tells of its place
+-- what a record says of its place
 abbrev next_of : Option (List ℕ) → List (List ℕ) → ℕ
 next_of None table = 0
 next_of (Some text) table = suc (number_of text table)

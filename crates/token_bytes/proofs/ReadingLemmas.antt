@@ -8,7 +8,7 @@ use Rattle.tt_data.specs.declared.leaf.Leaf.TheVariants as as_leaf
 use Rattle.tt_data.specs.declared.tree.TokenTree.{TokenTree}
 use Rattle.tt_data.specs.declared.tree.TokenTree.TheVariants as token
 use Rattle.tt_data.specs.Literals.{HasSuffix}
-use Rattle.token_bytes.specs.Records.{BeginsWithToken, Sort, of_group, of_punct, of_ident, of_literal, Tells, first_byte, first_size, first_token, size_of, sort_of, text_of, token_bytes}
+use Rattle.token_bytes.specs.Records.{BeginsWithToken, Sort, of_group, of_punct, of_ident, of_literal, Decodes, first_byte, first_size, first_token, size_of, sort_of, text_of, token_bytes}
 use Rattle.token_bytes.specs.Packing.{number_in, number_of, record_of, records, table_after, with_text, with_token}
 use Rattle.token_bytes.specs.Packed.{ArePacked, IsToken}
 use Rattle.token_bytes.proofs.RecordLemmas.{HasText, first_size-bytes, number-word, sort-group, sort-ident, sort-literal, sort-punct}
@@ -36,13 +36,13 @@ has_suffix text suffix boundary =
     let seam : length (text ++ suffix) - length suffix ≡ length text = omega (arith, length-append text suffix) in
     (omega (arith, length-append text suffix), subst (IsCharBoundary (text ++ suffix)) (sym seam) boundary)
 
--- the record of a token tells one, by a table that has its text
-tells-bytes : (table : List (List ℕ)) (n : ℕ) (t : TokenTree) (more : List ℕ) → IsToken t → HasText n table (text_of t) → IsWithin n table (text_of t)
-    → Tells (sort_of (first_byte (token_bytes n t ++ more))) table (drop 1 (token_bytes n t ++ more))
-tells-bytes table n (token.Subtree s) more is has within = rw (sort-group s.delimiter.kind) tt
-tells-bytes table n (token.Leaf (as_leaf.Punct p)) more is has within = rw (sort-punct p.spacing, number-word p.char []) is
-tells-bytes table n (token.Leaf (as_leaf.Ident i)) more is has within = rw (sort-ident i.is_raw, number-word n []) within
-tells-bytes table n (token.Leaf (as_leaf.Literal l)) more is has within =
+-- the record of a token decodes to one, by a table that has its text
+decodes-bytes : (table : List (List ℕ)) (n : ℕ) (t : TokenTree) (more : List ℕ) → IsToken t → HasText n table (text_of t) → IsWithin n table (text_of t)
+    → Decodes (sort_of (first_byte (token_bytes n t ++ more))) table (drop 1 (token_bytes n t ++ more))
+decodes-bytes table n (token.Subtree s) more is has within = rw (sort-group s.delimiter.kind) tt
+decodes-bytes table n (token.Leaf (as_leaf.Punct p)) more is has within = rw (sort-punct p.spacing, number-word p.char []) is
+decodes-bytes table n (token.Leaf (as_leaf.Ident i)) more is has within = rw (sort-ident i.is_raw, number-word n []) within
+decodes-bytes table n (token.Leaf (as_leaf.Literal l)) more is has within =
     rw (sort-literal l.kind, number-word n [], has, number-word (length l.suffix) []) (within, has_suffix l.text l.suffix is)
 
 pub begins-record : (table others : List (List ℕ)) (t : TokenTree) (more : List ℕ) → IsToken t
@@ -51,7 +51,7 @@ begins-record table others t more is =
     let n : ℕ = number_in (text_of t) table in
     record {
       whole = omega (arith, first_size-bytes n t more, length-append (record_of table t) more);
-      tells = tells-bytes (with_token (text_of t) table ++ others) n t more is (has_text (text_of t) table others) (is_within (text_of t) table others);
+      decodes = decodes-bytes (with_token (text_of t) table ++ others) n t more is (has_text (text_of t) table others) (is_within (text_of t) table others);
     }
 
 -- every record has at least 18 bytes

@@ -15,7 +15,7 @@ use Rattle.tt_data.specs.Names.{ident_of}
 use Rattle.token_bytes.specs.Records.{BeginsWithToken, first_token, token_bytes, word}
 use Rattle.token_bytes.specs.Packing.{number_of, records, table_after, tokens_in}
 use Rattle.token_bytes.specs.Relabelled.{renamed_span, renamed_token}
-use Rattle.token_bytes.specs.Runs.{AreTold, past}
+use Rattle.token_bytes.specs.Runs.{AreDecoded, past}
 use Rattle.token_bytes.specs.Numbers.{known_number}
 use Rattle.token_bytes.specs.Marks.{mark_of, place_of, record_size, texts_in, without_head}
 
@@ -101,7 +101,7 @@ unknown = refl
 first_two : mark_of (group ∷ name (codes "a") 1 ∷ []) ≡ record { count = 2; bytes = 49; texts = 1 }
 first_two = refl
 
--- the place there, in a run, tells of no text
+-- the place there, in a run, counts no text
 place_of_two : place_of (group ∷ name (codes "a") 1 ∷ []) ≡ record { count = 2; bytes = 49 }
 place_of_two = refl
 
@@ -109,13 +109,13 @@ place_of_two = refl
 without_group : without_head 0 (mark_of (group ∷ name (codes "a") 1 ∷ [])) ≡ mark_of (name (codes "a") 1 ∷ [])
 without_group = refl
 
--- a token tells the size of its record
+-- a token determines the size of its record
 sizes : record_size group + (record_size one + record_size semicolon) ≡ 31 + (23 + 18)
 sizes = refl
 
--- the record of `1u8` tells two texts
-texts_told : texts_in (token_bytes 1 one) ≡ 2
-texts_told = refl
+-- the record of `1u8` needs two texts
+texts_decoded : texts_in (token_bytes 1 one) ≡ 2
+texts_decoded = refl
 
 -- a guarded string keeps its hashes
 abbrev guarded : TokenTree
@@ -131,7 +131,7 @@ made = token.Leaf (as_leaf.Punct (record { char = 59; spacing = Joint; span = re
 made_back : first_token [] (token_bytes 0 made) ≡ made
 made_back = refl
 
--- a record that is cut tells nothing, and no byte is no record
+-- a record that is cut decodes to nothing, and no byte is no record
 cut : BeginsWithToken [] (4 ∷ 1 ∷ 0 ∷ []) → ⊥
 cut b = omega (arith, b.whole)
 
@@ -146,8 +146,8 @@ run_of_two : tokens_in 2 (table_after [] flat) (records [] flat) ≡ group ∷ n
 run_of_two = refl
 
 -- a record that is cut is no run
-no_run : AreTold 1 [] (4 ∷ 1 ∷ 0 ∷ []) → ⊥
-no_run told = omega (arith, told.0.whole)
+no_run : AreDecoded 1 [] (4 ∷ 1 ∷ 0 ∷ []) → ⊥
+no_run decoded = omega (arith, decoded.0.whole)
 
 -- the anchor of a punct's span is replaced in its record
 abbrev moved : ℕ → ℕ

@@ -6,16 +6,16 @@ use Rattle.tt_data.specs.declared.tree.TokenTree.{TokenTree}
 use Rattle.token_bytes.specs.Records.{BeginsWithToken, first_size, first_token, text_of}
 use Rattle.token_bytes.specs.Packing.{record_of, records, table_after, tokens_in, with_token}
 use Rattle.token_bytes.specs.Packed.{ArePacked, IsToken}
-use Rattle.token_bytes.specs.Runs.{AreTold, past}
+use Rattle.token_bytes.specs.Runs.{AreDecoded, past}
 use Rattle.token_bytes.proofs.PackingLemmas.{added, past-record, table_after-added}
 use Rattle.token_bytes.proofs.MarkLemmas.{length-tokens_in}
 use Rattle.token_bytes.proofs.ReadingLemmas.{begins-record}
 
 -- the first tokens of a run
-pub told_first : (k m n : ℕ) (table : List (List ℕ)) (bytes : List ℕ) → n ≡ k + m → AreTold n table bytes → AreTold k table bytes
-told_first zero m n table bytes e told = tt
-told_first (suc k) m zero table bytes e told = absurd (omega (arith, e))
-told_first (suc k) m (suc n) table bytes e told = (told.0, told_first k m n table (drop (first_size bytes) bytes) (omega (arith, e)) told.1)
+pub decoded_first : (k m n : ℕ) (table : List (List ℕ)) (bytes : List ℕ) → n ≡ k + m → AreDecoded n table bytes → AreDecoded k table bytes
+decoded_first zero m n table bytes e decoded = tt
+decoded_first (suc k) m zero table bytes e decoded = absurd (omega (arith, e))
+decoded_first (suc k) m (suc n) table bytes e decoded = (decoded.0, decoded_first k m n table (drop (first_size bytes) bytes) (omega (arith, e)) decoded.1)
 
 pub tokens_first : (k m n : ℕ) (table : List (List ℕ)) (bytes : List ℕ) → n ≡ k + m → tokens_in k table bytes ≡ take k (tokens_in n table bytes)
 tokens_first zero m n table bytes e = refl
@@ -24,10 +24,10 @@ tokens_first (suc k) m (suc n) table bytes e =
     ap (λ l. first_token table bytes ∷ l) (tokens_first k m n table (drop (first_size bytes) bytes) (omega (arith, e)))
 
 -- and those after them
-pub told_past : (k m n : ℕ) (table : List (List ℕ)) (bytes : List ℕ) → n ≡ k + m → AreTold n table bytes → AreTold m table (past k bytes)
-told_past zero m n table bytes e told = subst (λ i. AreTold i table bytes) (let same : n ≡ m = omega (arith, e) in same) told
-told_past (suc k) m zero table bytes e told = absurd (omega (arith, e))
-told_past (suc k) m (suc n) table bytes e told = told_past k m n table (drop (first_size bytes) bytes) (omega (arith, e)) told.1
+pub decoded_past : (k m n : ℕ) (table : List (List ℕ)) (bytes : List ℕ) → n ≡ k + m → AreDecoded n table bytes → AreDecoded m table (past k bytes)
+decoded_past zero m n table bytes e decoded = subst (λ i. AreDecoded i table bytes) (let same : n ≡ m = omega (arith, e) in same) decoded
+decoded_past (suc k) m zero table bytes e decoded = absurd (omega (arith, e))
+decoded_past (suc k) m (suc n) table bytes e decoded = decoded_past k m n table (drop (first_size bytes) bytes) (omega (arith, e)) decoded.1
 
 pub tokens_past : (k m n : ℕ) (table : List (List ℕ)) (bytes : List ℕ) → n ≡ k + m → tokens_in m table (past k bytes) ≡ drop k (tokens_in n table bytes)
 tokens_past zero m n table bytes e = ap (λ i. tokens_in i table bytes) (let same : m ≡ n = omega (arith, e) in same)
@@ -35,40 +35,40 @@ tokens_past (suc k) m zero table bytes e = absurd (omega (arith, e))
 tokens_past (suc k) m (suc n) table bytes e = tokens_past k m n table (drop (first_size bytes) bytes) (omega (arith, e))
 
 -- the records of a list tell its tokens, whatever follows them and their table
-told_records : (table others : List (List ℕ)) (ts : List TokenTree) (more : List ℕ) → All IsToken ts
-    → AreTold (length ts) (table_after table ts ++ others) (records table ts ++ more)
-told_records table others [] more are = tt
-told_records table others (t ∷ rest) more are =
+decoded_records : (table others : List (List ℕ)) (ts : List TokenTree) (more : List ℕ) → All IsToken ts
+    → AreDecoded (length ts) (table_after table ts ++ others) (records table ts ++ more)
+decoded_records table others [] more are = tt
+decoded_records table others (t ∷ rest) more are =
     let next : List (List ℕ) = with_token (text_of t) table in
     let whole : table_after next rest ++ others ≡ next ++ (added next rest ++ others) =
     ap (λ l. l ++ others) (table_after-added next rest) ∙ append_assoc next (added next rest) others in
     let bytes : (record_of table t ++ records next rest) ++ more ≡ record_of table t ++ (records next rest ++ more) =
     append_assoc (record_of table t) (records next rest) more in (
       rw (whole, bytes) (begins-record table (added next rest ++ others) t (records next rest ++ more) (All-head IsToken t rest are)),
-      rw (bytes, past-record table t (records next rest ++ more)) (told_records next others rest more (All-tail IsToken t rest are)),
+      rw (bytes, past-record table t (records next rest ++ more)) (decoded_records next others rest more (All-tail IsToken t rest are)),
     )
 
-pub told_packed : (ts : List TokenTree) (bytes : List ℕ) (table : List (List ℕ)) → ArePacked ts bytes table → AreTold (length ts) table bytes
-told_packed ts bytes table packed =
+pub decoded_packed : (ts : List TokenTree) (bytes : List ℕ) (table : List (List ℕ)) → ArePacked ts bytes table → AreDecoded (length ts) table bytes
+decoded_packed ts bytes table packed =
     rw (packed.bytes_are, packed.table_is)
-    (subst (λ l. AreTold (length ts) l (records [] ts)) (append-nil (table_after [] ts))
-    (subst (λ b. AreTold (length ts) (table_after [] ts ++ []) b) (append-nil (records [] ts)) (told_records [] [] ts [] packed.tokens)))
+    (subst (λ l. AreDecoded (length ts) l (records [] ts)) (append-nil (table_after [] ts))
+    (subst (λ b. AreDecoded (length ts) (table_after [] ts ++ []) b) (append-nil (records [] ts)) (decoded_records [] [] ts [] packed.tokens)))
 
 -- the first token of a run, and the run of the others
-pub record ToldFirst (n m : ℕ) (table : List (List ℕ)) (bytes : List ℕ) : Type 0 where
+pub record DecodedFirst (n m : ℕ) (table : List (List ℕ)) (bytes : List ℕ) : Type 0 where
   pub begins : BeginsWithToken table bytes
-  pub others : AreTold m table (drop (first_size bytes) bytes)
+  pub others : AreDecoded m table (drop (first_size bytes) bytes)
   pub tokens : tokens_in n table bytes ≡ first_token table bytes ∷ tokens_in m table (drop (first_size bytes) bytes)
   pub on : past m (drop (first_size bytes) bytes) ≡ past n bytes
 
-pub first_told : (n m : ℕ) (table : List (List ℕ)) (bytes : List ℕ) → n ≡ m + 1 → AreTold n table bytes → ToldFirst n m table bytes
-first_told zero m table bytes e told = absurd (omega (arith, e))
-first_told (suc n) m table bytes e told =
+pub first_decoded : (n m : ℕ) (table : List (List ℕ)) (bytes : List ℕ) → n ≡ m + 1 → AreDecoded n table bytes → DecodedFirst n m table bytes
+first_decoded zero m table bytes e decoded = absurd (omega (arith, e))
+first_decoded (suc n) m table bytes e decoded =
     let rest : List ℕ = drop (first_size bytes) bytes in
     let same : n ≡ m = omega (arith, e) in
     record {
-      begins = told.0;
-      others = subst (λ i. AreTold i table rest) same told.1;
+      begins = decoded.0;
+      others = subst (λ i. AreDecoded i table rest) same decoded.1;
       tokens = ap (λ i. first_token table bytes ∷ tokens_in i table rest) same;
       on = ap (λ i. past i rest) (sym same);
     }
@@ -76,20 +76,20 @@ first_told (suc n) m table bytes e told =
 -- a run cut after some tokens
 pub record Cut (n k : ℕ) (table : List (List ℕ)) (bytes : List ℕ) (ts : List TokenTree) : Type 0 where
   pub fits : k ≤ n
-  pub front_told : AreTold k table bytes
+  pub front_decoded : AreDecoded k table bytes
   pub front_is : tokens_in k table bytes ≡ take k ts
-  pub back_told : AreTold (n - k) table (past k bytes)
+  pub back_decoded : AreDecoded (n - k) table (past k bytes)
   pub back_is : tokens_in (n - k) table (past k bytes) ≡ drop k ts
 
-pub cut : (n k : ℕ) (table : List (List ℕ)) (bytes : List ℕ) (ts : List TokenTree) → AreTold n table bytes → tokens_in n table bytes ≡ ts
+pub cut : (n k : ℕ) (table : List (List ℕ)) (bytes : List ℕ) (ts : List TokenTree) → AreDecoded n table bytes → tokens_in n table bytes ≡ ts
     → k ≤ length ts → Cut n k table bytes ts
-cut n k table bytes ts told shown within =
+cut n k table bytes ts decoded shown within =
     let counted : length ts ≡ n = ap length (sym shown) ∙ length-tokens_in n table bytes in
     let parts : n ≡ k + (n - k) = omega (arith, counted, within) in
     record {
       fits = omega (arith, counted, within);
-      front_told = told_first k (n - k) n table bytes parts told;
+      front_decoded = decoded_first k (n - k) n table bytes parts decoded;
       front_is = tokens_first k (n - k) n table bytes parts ∙ ap (take k) shown;
-      back_told = told_past k (n - k) n table bytes parts told;
+      back_decoded = decoded_past k (n - k) n table bytes parts decoded;
       back_is = tokens_past k (n - k) n table bytes parts ∙ ap (drop k) shown;
     }

@@ -13,12 +13,12 @@ use Rattle.token_bytes.specs.Items.{items, records_in, texts_in}
 use Rattle.token_bytes.specs.Marks.{IsMarkIn, IsPlaceIn, place_of, record_size, records_size}
 use Rattle.token_bytes.specs.declared.mark.Place.{Place}
 use Rattle.token_bytes.specs.declared.tokens.Tokens.{Tokens}
-use Rattle.token_bytes.specs.Runs.{AreStored, AreTold, bytes_from, past, run_size, stored_size, table_in}
+use Rattle.token_bytes.specs.Runs.{IsRun, AreDecoded, bytes_from, past, run_size, stored_size, table_in}
 use Rattle.token_bytes.specs.declared.stored.Stored.{Stored}
 use Rattle.token_bytes.specs.declared.mark.Mark.{Mark}
 use Rattle.token_bytes.proofs.MarkLemmas.{head_among, head_at-drop, length-tokens_in, mark_bytes, mark_fits}
 use Rattle.token_bytes.proofs.ReadingLemmas.{first_size-least}
-use Rattle.token_bytes.proofs.RunLemmas.{told_past, tokens_past}
+use Rattle.token_bytes.proofs.RunLemmas.{decoded_past, tokens_past}
 
 -- the bytes after so many records
 pub past-run_size : (n : ℕ) (bytes : List ℕ) → past n bytes ≡ drop (run_size n bytes) bytes
@@ -39,15 +39,15 @@ bytes_from-on n at None = sym (drop_none n)
 bytes_from-on n at (Some s) = sym (drop-drop n at s.records)
 
 -- records that are there take at least 18 bytes each
-pub run_least : (n : ℕ) (table : List (List ℕ)) (bytes : List ℕ) → AreTold n table bytes → 18 * n ≤ length bytes
-run_least zero table bytes told = omega arith
-run_least (suc n) table bytes told =
-    omega (arith, first_size-least bytes, told.0.whole, length-drop (first_size bytes) bytes, run_least n table (drop (first_size bytes) bytes) told.1)
+pub run_least : (n : ℕ) (table : List (List ℕ)) (bytes : List ℕ) → AreDecoded n table bytes → 18 * n ≤ length bytes
+run_least zero table bytes decoded = omega arith
+run_least (suc n) table bytes decoded =
+    omega (arith, first_size-least bytes, decoded.0.whole, length-drop (first_size bytes) bytes, run_least n table (drop (first_size bytes) bytes) decoded.1)
 
-pub run_fits : (n : ℕ) (table : List (List ℕ)) (bytes : List ℕ) → AreTold n table bytes → run_size n bytes ≤ length bytes
-run_fits zero table bytes told = omega arith
-run_fits (suc n) table bytes told =
-    omega (arith, told.0.whole, length-drop (first_size bytes) bytes, run_fits n table (drop (first_size bytes) bytes) told.1)
+pub run_fits : (n : ℕ) (table : List (List ℕ)) (bytes : List ℕ) → AreDecoded n table bytes → run_size n bytes ≤ length bytes
+run_fits zero table bytes decoded = omega arith
+run_fits (suc n) table bytes decoded =
+    omega (arith, decoded.0.whole, length-drop (first_size bytes) bytes, run_fits n table (drop (first_size bytes) bytes) decoded.1)
 
 pub run_none : (n : ℕ) (bytes : List ℕ) → n ≡ 0 → run_size n bytes ≡ 0
 run_none n bytes none = ap (λ k. run_size k bytes) none
@@ -57,34 +57,34 @@ pub length-bytes_from : (at : ℕ) (stored : Option Stored) → length (bytes_fr
 length-bytes_from at None = omega arith
 length-bytes_from at (Some s) = length-drop at s.records
 
-pub count_fits : (stored : Option Stored) (at count : ℕ) → AreStored stored at count → 18 * count ≤ stored_size stored
-count_fits stored at count told =
-    omega (arith, run_least count (table_in stored) (bytes_from at stored) told, length-bytes_from at stored)
+pub count_fits : (stored : Option Stored) (at count : ℕ) → IsRun stored at count → 18 * count ≤ stored_size stored
+count_fits stored at count decoded =
+    omega (arith, run_least count (table_in stored) (bytes_from at stored) decoded, length-bytes_from at stored)
 
 -- the bytes of some first records
-pub first_fits : (k n : ℕ) (table : List (List ℕ)) (bytes : List ℕ) → k ≤ n → AreTold n table bytes → run_size k bytes ≤ length bytes
-first_fits zero n table bytes le told = omega arith
-first_fits (suc k) zero table bytes le told = absurd (omega (arith, le))
-first_fits (suc k) (suc n) table bytes le told =
-    omega (arith, told.0.whole, length-drop (first_size bytes) bytes, first_fits k n table (drop (first_size bytes) bytes) (omega (arith, le)) told.1)
+pub first_fits : (k n : ℕ) (table : List (List ℕ)) (bytes : List ℕ) → k ≤ n → AreDecoded n table bytes → run_size k bytes ≤ length bytes
+first_fits zero n table bytes le decoded = omega arith
+first_fits (suc k) zero table bytes le decoded = absurd (omega (arith, le))
+first_fits (suc k) (suc n) table bytes le decoded =
+    omega (arith, decoded.0.whole, length-drop (first_size bytes) bytes, first_fits k n table (drop (first_size bytes) bytes) (omega (arith, le)) decoded.1)
 
 -- where a run goes on after its first tokens
 pub record GoesOn (stored : Option Stored) (at count k bytes : ℕ) : Type 0 where
-  pub told : AreStored stored (at + bytes) (count - k)
+  pub decoded : IsRun stored (at + bytes) (count - k)
   pub items_are : tokens_in (count - k) (table_in stored) (bytes_from (at + bytes) stored)
       ≡ drop k (tokens_in count (table_in stored) (bytes_from at stored))
   pub fits : at + bytes ≤ max at (stored_size stored)
 
-pub goes_on : (stored : Option Stored) (at count k bytes : ℕ) → AreStored stored at count → k ≤ count
+pub goes_on : (stored : Option Stored) (at count k bytes : ℕ) → IsRun stored at count → k ≤ count
     → bytes ≡ run_size k (bytes_from at stored) → GoesOn stored at count k bytes
-goes_on stored at count k bytes told le is =
+goes_on stored at count k bytes decoded le is =
     let table : List (List ℕ) = table_in stored in
     let here : List ℕ = bytes_from at stored in
     let parts : count ≡ k + (count - k) = omega (arith, le) in
     let on : bytes_from (at + bytes) stored ≡ past k here =
     bytes_from-on bytes at stored ∙ ap (λ n. drop n here) is ∙ sym (past-run_size k here) in
     record {
-      told = subst (λ b. AreTold (count - k) table b) (sym on) (told_past k (count - k) count table here parts told);
+      decoded = subst (λ b. AreDecoded (count - k) table b) (sym on) (decoded_past k (count - k) count table here parts decoded);
       items_are = ap (tokens_in (count - k) table) on ∙ tokens_past k (count - k) count table here parts;
       fits = by k is le;
     }
@@ -99,8 +99,8 @@ goes_on stored at count k bytes told le is =
           is,
           le,
           length-bytes_from at stored,
-          run_least count table here told,
-          first_fits (suc k) count table here le told,
+          run_least count table here decoded,
+          first_fits (suc k) count table here le decoded,
         )
 
 -- a record has the size of its token's
@@ -141,30 +141,30 @@ first_item t some = items_are t ∙ by t.count some ∙ ap (λ l. first_token (t
   by (suc n) some = refl
 
 -- its record is there whole
-pub first_there : (n : ℕ) (table : List (List ℕ)) (bytes : List ℕ) → 0 < n → AreTold n table bytes → BeginsWithToken table bytes
-first_there zero table bytes some told = absurd (omega (arith, some))
-first_there (suc n) table bytes some told = told.0
+pub first_there : (n : ℕ) (table : List (List ℕ)) (bytes : List ℕ) → 0 < n → AreDecoded n table bytes → BeginsWithToken table bytes
+first_there zero table bytes some decoded = absurd (omega (arith, some))
+first_there (suc n) table bytes some decoded = decoded.0
 
 -- one record of a run, and the others
 pub record RunNext (n : ℕ) (table : List (List ℕ)) (bytes : List ℕ) : Type 0 where
   pub begins : BeginsWithToken table bytes
-  pub told : AreTold (n - 1) table (drop (first_size bytes) bytes)
+  pub decoded : AreDecoded (n - 1) table (drop (first_size bytes) bytes)
   pub size : run_size n bytes ≡ first_size bytes + run_size (n - 1) (drop (first_size bytes) bytes)
 
-pub run_next : (n : ℕ) (table : List (List ℕ)) (bytes : List ℕ) → 0 < n → AreTold n table bytes → RunNext n table bytes
-run_next zero table bytes some told = absurd (omega (arith, some))
-run_next (suc n) table bytes some told =
+pub run_next : (n : ℕ) (table : List (List ℕ)) (bytes : List ℕ) → 0 < n → AreDecoded n table bytes → RunNext n table bytes
+run_next zero table bytes some decoded = absurd (omega (arith, some))
+run_next (suc n) table bytes some decoded =
     let same : n ≡ suc n - 1 = omega arith in
     record {
-      begins = told.0;
-      told = subst (λ k. AreTold k table (drop (first_size bytes) bytes)) same told.1;
+      begins = decoded.0;
+      decoded = subst (λ k. AreDecoded k table (drop (first_size bytes) bytes)) same decoded.1;
       size = ap (λ k. first_size bytes + run_size k (drop (first_size bytes) bytes)) same;
     }
 
 -- the first record is among what is stored
-pub at_below : (stored : Option Stored) (at count : ℕ) → AreStored stored at count → 0 < count → at < stored_size stored
-at_below stored at count told some =
-    omega (arith, some, run_least count (table_in stored) (bytes_from at stored) told, length-bytes_from at stored)
+pub at_below : (stored : Option Stored) (at count : ℕ) → IsRun stored at count → 0 < count → at < stored_size stored
+at_below stored at count decoded some =
+    omega (arith, some, run_least count (table_in stored) (bytes_from at stored) decoded, length-bytes_from at stored)
 
 -- places of a run
 pub place_is : (p : Place) (ts : List TokenTree) → IsPlaceIn p ts → p ≡ place_of (take p.count ts)

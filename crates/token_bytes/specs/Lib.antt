@@ -1,10 +1,10 @@
--- what the public contracts use: the record of a token, the records and the table of a list of tokens, the tokens of a run, marks and places
+-- what the public contracts use: the record of a token, the records and the table of a list of
+-- tokens, the tokens of a run, marks and places
 pub mod Records
 pub mod Packing
 pub mod Runs
 pub mod Items
 pub mod Marks
-pub mod Anchors
 -- what the functions inside promise each other
 pub mod Packed
 pub mod Numbers

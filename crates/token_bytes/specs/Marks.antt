@@ -29,7 +29,7 @@ place_of ts = record { count = length ts; bytes = records_size ts }
 unfoldable pub IsPlaceIn : Place → List TokenTree → Type 0
 IsPlaceIn p ts = p ≡ place_of (take p.count ts)
 
--- the mark of the end of these tokens: it tells of their texts too
+-- the mark of the end of these tokens: it counts their texts too
 abbrev pub mark_of : List TokenTree → Mark
 mark_of ts = record {
   count = length ts;

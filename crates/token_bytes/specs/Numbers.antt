@@ -12,7 +12,8 @@ number_at index text = get (pointwise nat_eq) index.map text
 -- the number of a text that is in a table
 abbrev pub known_number : List ℕ → List (List ℕ) → Option ℕ
 known_number text [] = None
-known_number text (s ∷ more) = if pointwise nat_eq text s then Some 0 else option_map suc (known_number text more)
+known_number text (s ∷ more) =
+    if pointwise nat_eq text s then Some 0 else option_map suc (known_number text more)
 
 -- an index has the texts of a table, each with its number, and no others
 abbrev pub Indexes : TextIndex → List (List ℕ) → Type 0

@@ -1,10 +1,12 @@
--- The tokens of a list as bytes: their records one after the other, and a table that has each text once, in the order of first use.
+-- The tokens of a list as bytes: their records one after the other, and a table that has each text
+-- once, in the order of first use.
 use Rattle.std.specs.Prelude.{ℕ, zero, suc, List, [], ◌∷◌, ◌++◌, drop, Option, Some, None, nat_eq, if◌then◌else◌}
 use Rattle.std.specs.Cmp.Lexicographic.{pointwise}
 use Rattle.tt_data.specs.declared.tree.TokenTree.{TokenTree}
 use Rattle.token_bytes.specs.Records.{first_size, first_token, text_of, token_bytes}
 
--- the number of a text's entry; of a text that is not in the table, the number that its entry would get
+-- the number of a text's entry; of a text that is not in the table, the number that its entry
+-- would get
 abbrev pub number_of : List ℕ → List (List ℕ) → ℕ
 number_of text [] = 0
 number_of text (s ∷ more) = if pointwise nat_eq text s then 0 else suc (number_of text more)
@@ -39,4 +41,5 @@ table_after table (t ∷ more) = table_after (with_token (text_of t) table) more
 -- the tokens of so many records
 abbrev pub tokens_in : ℕ → List (List ℕ) → List ℕ → List TokenTree
 tokens_in zero table bytes = []
-tokens_in (suc n) table bytes = first_token table bytes ∷ tokens_in n table (drop (first_size bytes) bytes)
+tokens_in (suc n) table bytes =
+    first_token table bytes ∷ tokens_in n table (drop (first_size bytes) bytes)

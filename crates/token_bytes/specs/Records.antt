@@ -1,4 +1,5 @@
--- A token as bytes: a record of 31 bytes for the head of a group, 18 for a punct or an identifier, 23 for a literal.
+-- A token as bytes: a record of 31 bytes for the head of a group, 18 for a punct or an identifier,
+-- 23 for a literal.
 -- The text of an identifier or a literal stands in a table; its record has the number of its entry.
 use Rattle.std.specs.Prelude.{ℕ, ◌+◌, ◌-◌, ◌*◌, ◌/◌, ◌%◌, ◌<◌, ◌≤◌, ⊤, List, [], ◌∷◌, ◌++◌, length, take, drop, Option, Some, None, slice_index_or, nat_eq, if◌then◌else◌}
 use Rattle.std.specs.Char.{IsScalar}
@@ -43,7 +44,8 @@ context_of b = if nat_eq b 0 then context.Written else context.Made
 
 -- the 13 bytes of a span: start, end, anchor and context; and back
 abbrev pub span_bytes : Span → List ℕ
-span_bytes s = word s.range.start ++ (word s.range.«end» ++ (word s.anchor ++ (context_byte s.ctx ∷ [])))
+span_bytes s =
+    word s.range.start ++ (word s.range.«end» ++ (word s.anchor ++ (context_byte s.ctx ∷ [])))
 
 abbrev pub span_in : List ℕ → Span
 span_in bytes = record {
@@ -52,7 +54,7 @@ span_in bytes = record {
   ctx = context_of (first_byte (drop 12 bytes));
 }
 
--- the first byte of a record, its tag, tells what the token is
+-- the first byte of a record, its tag, says what the token is
 abbrev pub group_tag : DelimiterKind → ℕ
 group_tag kind.Parenthesis = 0
 group_tag kind.Brace = 1
@@ -143,12 +145,14 @@ abbrev pub leaf_bytes : ℕ → Leaf → List ℕ
 leaf_bytes n (as_leaf.Punct p) = punct_tag p.spacing ∷ (span_bytes p.span ++ word p.char)
 leaf_bytes n (as_leaf.Ident i) = ident_tag i.is_raw ∷ (span_bytes i.span ++ word n)
 leaf_bytes n (as_leaf.Literal l) =
-    literal_tag l.kind ∷ (span_bytes l.span ++ (word n ++ (word (length l.suffix) ++ (hashes l.kind ∷ []))))
+    literal_tag l.kind ∷ (span_bytes l.span ++ (word n ++ (word (length l.suffix)
+    ++ (hashes l.kind ∷ []))))
 
 abbrev pub token_bytes : ℕ → TokenTree → List ℕ
 token_bytes n (token.Leaf l) = leaf_bytes n l
 token_bytes n (token.Subtree s) =
-    group_tag s.delimiter.kind ∷ (span_bytes s.delimiter.open_span ++ (span_bytes s.delimiter.close_span ++ word s.len))
+    group_tag s.delimiter.kind ∷ (span_bytes s.delimiter.open_span
+    ++ (span_bytes s.delimiter.close_span ++ word s.len))
 
 -- the text of a token, if it has one; of a literal, with its suffix
 abbrev pub text_of : TokenTree → Option (List ℕ)
@@ -164,17 +168,29 @@ entry_in table body = slice_index_or table (number (drop 13 body)) []
 abbrev pub before_suffix : List (List ℕ) → List ℕ → ℕ
 before_suffix table body = length (entry_in table body) - number (drop 17 body)
 
--- the token that a record tells, by what it is of, its tag, and the bytes after the tag
+-- the token that a record decodes to, by what it is of, its tag, and the bytes after the tag
 abbrev pub token_by : Sort → ℕ → List (List ℕ) → List ℕ → TokenTree
 token_by (of_group k) tag table body =
     token.Subtree (record {
-      delimiter = record { open_span = span_in body; close_span = span_in (drop 13 body); kind = k };
+      delimiter = record {
+        open_span = span_in body;
+        close_span = span_in (drop 13 body);
+        kind = k;
+      };
       len = number (drop 26 body);
     })
 token_by (of_punct s) tag table body =
-    token.Leaf (as_leaf.Punct (record { char = number (drop 13 body); spacing = s; span = span_in body }))
+    token.Leaf (as_leaf.Punct (record {
+      char = number (drop 13 body);
+      spacing = s;
+      span = span_in body;
+    }))
 token_by (of_ident r) tag table body =
-    token.Leaf (as_leaf.Ident (record { sym = entry_in table body; span = span_in body; is_raw = r }))
+    token.Leaf (as_leaf.Ident (record {
+      sym = entry_in table body;
+      span = span_in body;
+      is_raw = r;
+    }))
 token_by of_literal tag table body =
     token.Leaf (as_leaf.Literal (literal_of
     (take (before_suffix table body) (entry_in table body))
@@ -184,17 +200,19 @@ token_by of_literal tag table body =
 
 -- the token of the first record
 abbrev pub first_token : List (List ℕ) → List ℕ → TokenTree
-first_token table bytes = token_by (sort_of (first_byte bytes)) (first_byte bytes) table (drop 1 bytes)
+first_token table bytes =
+    token_by (sort_of (first_byte bytes)) (first_byte bytes) table (drop 1 bytes)
 
--- a record tells a token: its character is one, its entry is there, and a suffix begins at a character of it
-abbrev pub Tells : Sort → List (List ℕ) → List ℕ → Type 0
-Tells (of_group k) table body = ⊤
-Tells (of_punct s) table body = IsScalar (number (drop 13 body))
-Tells (of_ident r) table body = number (drop 13 body) < length table
-Tells of_literal table body =
+-- a record decodes to a token: its character is one, its entry is there, and a suffix begins at a
+-- character of it
+abbrev pub Decodes : Sort → List (List ℕ) → List ℕ → Type 0
+Decodes (of_group k) table body = ⊤
+Decodes (of_punct s) table body = IsScalar (number (drop 13 body))
+Decodes (of_ident r) table body = number (drop 13 body) < length table
+Decodes of_literal table body =
     (number (drop 13 body) < length table) × HasSuffix (entry_in table body) (number (drop 17 body))
 
--- the first record is there whole, and tells a token
+-- the first record is there whole, and decodes to a token
 pub record BeginsWithToken (table : List (List ℕ)) (bytes : List ℕ) : Type 0 where
   pub whole : first_size bytes ≤ length bytes
-  pub tells : Tells (sort_of (first_byte bytes)) table (drop 1 bytes)
+  pub decodes : Decodes (sort_of (first_byte bytes)) table (drop 1 bytes)

@@ -1,8 +1,9 @@
--- Runs of records, and the tokens that they tell.
-use Rattle.std.specs.Prelude.{ℕ, zero, suc, ◌+◌, ⊤, List, [], drop, length, Option, Some, None}
+-- Runs of records, and the tokens that they decode to.
+use Rattle.std.specs.Prelude.{ℕ, zero, suc, ◌+◌, ⊤, List, [], drop, length, Option, Some, None, option_map}
+use denote.Bor.{Bor}
 use Rattle.std.specs.Coded.{×_prop, Unit-prop}
 use Rattle.std.proofs.Props.{props}
-use Rattle.token_bytes.specs.Records.{BeginsWithToken, Sort, Tells, first_size, of_group, of_ident, of_literal, of_punct}
+use Rattle.token_bytes.specs.Records.{BeginsWithToken, Sort, Decodes, first_size, of_group, of_ident, of_literal, of_punct}
 use Rattle.token_bytes.specs.declared.stored.Stored.{Stored}
 
 -- the bytes after so many records
@@ -15,10 +16,11 @@ abbrev pub run_size : ℕ → List ℕ → ℕ
 run_size zero bytes = 0
 run_size (suc n) bytes = first_size bytes + run_size n (drop (first_size bytes) bytes)
 
--- so many records are there whole, and each tells a token
-abbrev pub AreTold : ℕ → List (List ℕ) → List ℕ → Type 0
-AreTold zero table bytes = ⊤
-AreTold (suc n) table bytes = BeginsWithToken table bytes × AreTold n table (drop (first_size bytes) bytes)
+-- so many records are there whole, and each decodes to a token
+abbrev pub AreDecoded : ℕ → List (List ℕ) → List ℕ → Type 0
+AreDecoded zero table bytes = ⊤
+AreDecoded (suc n) table bytes =
+    BeginsWithToken table bytes × AreDecoded n table (drop (first_size bytes) bytes)
 
 -- the records from a byte on, and the table: none where nothing is stored
 abbrev pub bytes_from : ℕ → Option Stored → List ℕ
@@ -30,23 +32,32 @@ table_in None = []
 table_in (Some s) = s.texts.texts.items
 
 -- so many records are there from a byte on
-abbrev pub AreStored : Option Stored → ℕ → ℕ → Type 0
-AreStored stored at count = AreTold count (table_in stored) (bytes_from at stored)
+abbrev pub IsRun : Option Stored → ℕ → ℕ → Type 0
+IsRun stored at count = AreDecoded count (table_in stored) (bytes_from at stored)
 
 -- the bytes of all that is stored
 abbrev pub stored_size : Option Stored → ℕ
 stored_size None = 0
 stored_size (Some s) = length s.records
 
-Tells-prop : (s : Sort) (table : List (List ℕ)) (body : List ℕ) → IsProp (Tells s table body)
-Tells-prop (of_group k) table body = Unit-prop
-Tells-prop (of_punct k) table body = Prim.hlevel props
-Tells-prop (of_ident r) table body = Prim.hlevel props
-Tells-prop of_literal table body = Prim.hlevel props
+Decodes-prop : (s : Sort) (table : List (List ℕ)) (body : List ℕ) → IsProp (Decodes s table body)
+Decodes-prop (of_group k) table body = Unit-prop
+Decodes-prop (of_punct k) table body = Prim.hlevel props
+Decodes-prop (of_ident r) table body = Prim.hlevel props
+Decodes-prop of_literal table body = Prim.hlevel props
 
-pub AreTold-prop : (n : ℕ) (table : List (List ℕ)) (bytes : List ℕ) → IsProp (AreTold n table bytes)
-AreTold-prop zero table bytes = Unit-prop
-AreTold-prop (suc n) table bytes = ×_prop (Prim.hlevel (Tells-prop, props)) (AreTold-prop n table (drop (first_size bytes) bytes))
+pub AreDecoded-prop : (n : ℕ) (table : List (List ℕ)) (bytes : List ℕ)
+    → IsProp (AreDecoded n table bytes)
+AreDecoded-prop zero table bytes = Unit-prop
+AreDecoded-prop (suc n) table bytes = ×_prop (Prim.hlevel (Decodes-prop, props))
+    (AreDecoded-prop n table (drop (first_size bytes) bytes))
 
-pub AreStored-prop : (stored : Option Stored) (at count : ℕ) → IsProp (AreStored stored at count)
-AreStored-prop stored at count = AreTold-prop count (table_in stored) (bytes_from at stored)
+pub IsRun-prop : (stored : Option Stored) (at count : ℕ) → IsProp (IsRun stored at count)
+IsRun-prop stored at count = AreDecoded-prop count (table_in stored) (bytes_from at stored)
+
+-- the same of what is lent
+abbrev pub IsLentRun : Option (Bor Stored) → ℕ → ℕ → Type 0
+IsLentRun lent at count = IsRun (option_map (λ s. s.now) lent) at count
+
+pub IsLentRun-prop : (lent : Option (Bor Stored)) (at count : ℕ) → IsProp (IsLentRun lent at count)
+IsLentRun-prop lent at count = IsRun-prop (option_map (λ s. s.now) lent) at count

@@ -1,6 +1,7 @@
 //! Owned runs of tokens.
 ghost use Rattle.std.specs.Prelude.{◌≡◌, ◌⊎◌, ◌<◌, ◌≤◌, ◌+◌, ◌^◌, ◌∷◌, ◌++◌, [], length};
-ghost use Rattle.std.specs.Prelude.{option_map, slice_index_or, suc, take, drop, set, true, vec_len};
+ghost use Rattle.std.specs.Prelude.{option_map, slice_index_or, suc, take, drop, set, true};
+ghost use Rattle.std.specs.Prelude.{vec_len};
 ghost use Rattle.std.specs.Prelude.{IfErr, IfOk, OnOk, OnErr};
 ghost use Rattle.tt_data.specs.declared.tree.TokenTree.{TokenTree};
 ghost use Rattle.tt_data.specs.declared.tree.TokenTree.TheVariants as token;
@@ -11,9 +12,9 @@ ghost use Rattle.token_bytes.specs.Packed.{IsToken};
 ghost use Rattle.token_bytes.specs.Items.{items};
 ghost use Rattle.token_bytes.specs.Numbers.{IsNumbered};
 
+use crate::in_place::{relabel_record, set_alone};
 use crate::mark::Mark;
 use crate::reading::{first_extent, from};
-use crate::relabel::set_alone;
 use crate::stored::{Stored, is_same};
 use crate::text_table::TextTable;
 use crate::tokens::Tokens;
@@ -23,6 +24,7 @@ use std::alloc::{AllocError, Global};
 use std::fmt;
 use std::hash::{Hash, Hasher};
 use std::marker::Model;
+use token_storage::Renaming;
 use tt_data::{Leaf, Subtree, Symbol, TokenTree};
 
 /// An owned run of tokens.
@@ -143,7 +145,7 @@ impl TokenBuffer {
         let mut buffer = TokenBuffer::new(alloc);
         let mut rest = tokens;
         while let Some((token, more)) = rest.split_first() {
-            buffer.put(token)?;
+            buffer.store(token)?;
             rest = more;
         }
         Ok(buffer)
@@ -192,7 +194,7 @@ impl TokenBuffer {
     }
 
     // Appends a token. A refused call changes nothing.
-    fn put(&mut self, token: &TokenTree) -> Result<(), AllocError>
+    fn store(&mut self, token: &TokenTree) -> Result<(), AllocError>
         requires room { length self.old < 2 ^ 32 }
         ensures ok { OnOk result (self.new ≡ self.old ++ token.now ∷ []) }
         ensures err { OnErr result (self.new ≡ self.old) }
@@ -217,18 +219,18 @@ impl TokenBuffer {
         ensures ok { OnOk result (self.new ≡ self.old ++ token ∷ []) }
         ensures err { OnErr result (self.new ≡ self.old) }
     {
-        self.put(&token)
+        self.store(&token)
     }
 
     // Appends copies of these tokens. A refused call may leave some.
-    fn put_all(&mut self, tokens: Tokens<'_>) -> Result<(), AllocError>
+    fn store_all(&mut self, tokens: Tokens<'_>) -> Result<(), AllocError>
         requires room { length self.old + length (items tokens) ≤ 2 ^ 32 }
         ensures ok { OnOk result (self.new ≡ self.old ++ items tokens.entry) }
         ensures err { OnErr result (take (length self.old) self.new ≡ self.old) }
     {
         let mut rest = tokens;
         while let Some((token, more)) = rest.split_first() {
-            self.put(&token)?;
+            self.store(&token)?;
             rest = more;
         }
         Ok(())
@@ -241,7 +243,7 @@ impl TokenBuffer {
         ensures err { OnErr result (self.new ≡ self.old) }
     {
         let end = self.end();
-        match self.put_all(tokens) {
+        match self.store_all(tokens) {
             Ok(()) => Ok(()),
             Err(error) => {
                 self.cut_back(end);
@@ -372,8 +374,10 @@ impl TokenBuffer {
 impl TokenBuffer {
     ghost use Rattle.std.specs.Cmp.Lexicographic.{pointwise};
     ghost use Rattle.std.specs.Hash as fed;
-    ghost use Rattle.std.specs.Prelude.{fold};
+    ghost use Rattle.std.specs.Prelude.{fold, map};
+    ghost use Rattle.token_storage.specs.Anchors.{IsAtHand, answer_of};
     ghost use Rattle.token_bytes.specs.Packing.{records, table_after};
+    ghost use Rattle.tt_data.specs.Spans.{anchor_with, token_with};
 
     /// Whether both have equal tokens, one by one: whether their bytes and their tables are equal.
     pub fn is_equal(&self, other: &TokenBuffer) -> bool
@@ -383,6 +387,19 @@ impl TokenBuffer {
             return false;
         }
         is_same(&self.stored, &other.stored)
+    }
+
+    /// Replaces the anchors of each token.
+    pub fn relabel(&mut self, renaming: &Renaming)
+        requires { IsAtHand renaming.now }
+        ensures { self.new ≡ map (token_with (anchor_with (answer_of renaming.now))) self.old }
+    {
+        let mut at = 0;
+        let mut left = self.count;
+        while left > 0 {
+            at = relabel_record(&mut self.stored.records, at, renaming);
+            left -= 1;
+        }
     }
 
     /// Feeds the bytes and the table to a hasher.
@@ -407,9 +424,9 @@ fn stored_around(
         ++ token.Leaf leaf ∷ items after.entry) }
 {
     let mut buffer = TokenBuffer::new(alloc);
-    buffer.put_all(before)?;
+    buffer.store_all(before)?;
     buffer.push(TokenTree::Leaf(leaf))?;
-    buffer.put_all(after)?;
+    buffer.store_all(after)?;
     Ok(buffer)
 }
 

@@ -8,11 +8,10 @@
 #![tactic(auto)]
 
 mod buffer;
+mod in_place;
 pub mod laws;
 mod mark;
 mod reading;
-mod relabel;
-mod renaming;
 mod stored;
 mod text_index;
 mod text_table;
@@ -21,5 +20,4 @@ mod writing;
 
 pub use buffer::TokenBuffer;
 pub use mark::{Mark, Place};
-pub use renaming::Renaming;
 pub use tokens::Tokens;

@@ -6,7 +6,7 @@ ghost use Rattle.tt_data.specs.declared.leaf.Leaf.TheVariants as as_leaf;
 ghost use Rattle.tt_data.specs.declared.tree.TokenTree.TheVariants as token;
 ghost use Rattle.token_storage.specs.Records.{as_head};
 ghost use Rattle.token_storage.specs.StoredTokens.{ident_of, kind_of, leaf_of, punct_of};
-ghost use Rattle.token_bytes.specs.Records.{BeginsWithToken, Tells, entry_in, first_size};
+ghost use Rattle.token_bytes.specs.Records.{BeginsWithToken, Decodes, entry_in, first_size};
 ghost use Rattle.token_bytes.specs.Records.{first_token, form_of, number, of_group, of_ident};
 ghost use Rattle.token_bytes.specs.Records.{of_literal, of_punct, size_of, sort_of, span_in};
 ghost use Rattle.token_bytes.specs.Records.{token_by};
@@ -92,7 +92,7 @@ fn head_of(kind: DelimiterKind, body: &[u8]) -> Subtree
 #[inline(always)]
 fn punct_of(spacing: Spacing, body: &[u8]) -> Punct
     requires whole { 17 ≤ length body.now }
-    requires tells { Tells (of_punct spacing) [] body.now }
+    requires decodes { Decodes (of_punct spacing) [] body.now }
     ensures { token.Leaf (as_leaf.Punct result) ≡ token_by (of_punct spacing) 0 [] body.now }
 {
     let Some(char) = char::from_u32(number_in(from(body, 13))) else {
@@ -119,7 +119,7 @@ fn entry_in<'a>(table: &'a [Symbol], body: &[u8]) -> &'a Symbol
 #[inline(always)]
 fn ident_of<'a>(is_raw: IdentIsRaw, table: &'a [Symbol], body: &[u8]) -> IdentRef<'a>
     requires whole { 17 ≤ length body.now }
-    requires tells { Tells (of_ident is_raw) table.now body.now }
+    requires decodes { Decodes (of_ident is_raw) table.now body.now }
     ensures { token.Leaf (as_leaf.Ident (ident_lent result))
         ≡ token_by (of_ident is_raw) 0 table.now body.now }
 {
@@ -155,7 +155,7 @@ fn form_of(tag: u8, hashes: u8) -> LitKind
 #[inline(always)]
 fn literal_of<'a>(tag: u8, table: &'a [Symbol], body: &[u8]) -> LiteralRef<'a>
     requires whole { 22 ≤ length body.now }
-    requires tells { Tells of_literal table.now body.now }
+    requires decodes { Decodes of_literal table.now body.now }
     ensures { token.Leaf (as_leaf.Literal (literal_lent result))
         ≡ token_by of_literal tag table.now body.now }
 {
@@ -254,7 +254,7 @@ pub(crate) fn first_size(bytes: &[u8]) -> usize
     size_of(bytes[0])
 }
 
-/// What a record tells of its place: its bytes, and how many texts a table has at least that has
+/// What a record says of its place: its bytes, and how many texts a table has at least that has
 /// its text.
 #[derive(Clone, Copy)]
 pub(crate) struct Extent {
@@ -262,7 +262,7 @@ pub(crate) struct Extent {
     pub(crate) texts: usize,
 }
 
-/// What the first record, which is there whole, tells of its place.
+/// What the first record, which is there whole, says of its place.
 pub(crate) fn first_extent(bytes: &[u8]) -> Extent
     requires { first_size bytes.now ≤ length bytes.now }
     ensures size { result.size ≡ first_size bytes.now }

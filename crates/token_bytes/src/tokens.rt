@@ -1,6 +1,5 @@
 //! Borrowed runs of tokens.
-ghost use Rattle.std.specs.Prelude.{option_map};
-ghost use Rattle.token_bytes.specs.Runs.{AreStored, AreStored-prop};
+ghost use Rattle.token_bytes.specs.Runs.{IsLentRun, IsLentRun-prop};
 
 mod around;
 mod first;
@@ -20,7 +19,7 @@ pub struct Tokens<'a> {
     at: usize,
     // The number of the tokens.
     count: usize,
-    ghost told: { AreStored (option_map (λ s. s.now) stored) at count } by { AreStored-prop (option_map (λ s. s.now) stored) at count },
+    ghost decoded: { IsLentRun stored at count } by { IsLentRun-prop stored at count },
 }
 
 #[tactic(auto, unfolding(crate::specs::Items::items))]

@@ -35,7 +35,7 @@ impl Renaming {
     }
 
     /// What replaces an anchor.
-    pub(crate) fn anchor(&self, anchor: u32) -> u32
+    pub fn anchor(&self, anchor: u32) -> u32
         requires { IsAtHand self.now }
         ensures { result ≡ answer_of self.now anchor }
     {

@@ -4,7 +4,7 @@ ghost use Rattle.std.specs.Prelude.{drop, false, option_map};
 ghost use Rattle.token_bytes.specs.Items.{items, records_in, texts_in};
 ghost use Rattle.token_bytes.specs.Packing.{tokens_in};
 ghost use Rattle.token_bytes.specs.Records.{BeginsWithToken, first_size, first_token};
-ghost use Rattle.token_bytes.specs.Runs.{AreTold, run_size, stored_size};
+ghost use Rattle.token_bytes.specs.Runs.{AreDecoded, run_size, stored_size};
 
 use crate::reading::{first_head, first_leaf, first_size, from};
 use crate::stored::Stored;
@@ -14,7 +14,7 @@ use tt_data::{Symbol, TokenTree};
 // The bytes of the first `count` records.
 #[inline(never)]
 fn run_size(_table: &[Symbol], bytes: &[u8], count: usize) -> usize
-    requires { AreTold count _table.now bytes.now }
+    requires { AreDecoded count _table.now bytes.now }
     ensures { result ≡ run_size count bytes.now }
 {
     let mut size = 0;
@@ -33,7 +33,7 @@ impl<'a> Tokens<'a> {
     /// The first `count` tokens of what is stored.
     #[inline(always)]
     pub(crate) fn of(stored: &'a Stored, count: usize) -> Tokens<'a>
-        requires { AreTold count stored.now.texts.texts.items stored.now.records }
+        requires { AreDecoded count stored.now.texts.texts.items stored.now.records }
         ensures count { result.count ≡ count }
         ensures bytes { records_in result ≡ stored.now.records }
         ensures items { items result

@@ -1,6 +1,6 @@
 -- Record by record.
 use Rattle.std.proofs.Common.{◌≡◌, ◌∙◌, ◌-◌, ap, arith, length, subst, suc, sym}
-use Rattle.token_bytes.specs.Anchors.{answer_of}
+use Rattle.token_storage.specs.Anchors.{answer_of}
 use Rattle.token_bytes.proofs.MarkLemmas.{length-tokens_in}
 use Rattle.token_bytes.proofs.RelabelLemmas.{RelabelledTo, all_done, none_yet, turn}
 use Rattle.token_bytes.proofs.buffer.TokenBuffer.relabel.Goals as goal

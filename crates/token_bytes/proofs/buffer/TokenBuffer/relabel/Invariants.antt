@@ -1,5 +1,5 @@
 use Rattle.std.proofs.Common.{◌≡◌, ◌-◌, ◌≤◌, length}
-use Rattle.token_bytes.specs.Anchors.{answer_of}
+use Rattle.token_storage.specs.Anchors.{answer_of}
 use Rattle.token_bytes.specs.Numbers.{IsNumbered}
 use Rattle.token_bytes.proofs.RelabelLemmas.{RelabelledTo}
 use Rattle.token_bytes.proofs.buffer.TokenBuffer.relabel.Given as goal

@@ -1,4 +1,4 @@
--- The tag of a punct's record tells its spacing.
+-- The tag of a punct's record is that of its spacing.
 use Rattle.std.proofs.Common.{◌≡◌, ◌∙◌, ap, sym, subst, length, set}
 use Rattle.token_storage.specs.Records.{alone_token}
 use Rattle.token_bytes.specs.Packed.{ArePacked}

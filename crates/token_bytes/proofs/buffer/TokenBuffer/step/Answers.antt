@@ -1,4 +1,4 @@
--- The next record tells how far it goes.
+-- The next record says how far it goes.
 use Rattle.std.proofs.Common.{refl, arith}
 use Rattle.token_bytes.proofs.MarkLemmas.{stepped_in}
 use Rattle.token_bytes.proofs.buffer.TokenBuffer.step.Goals as goal

@@ -1,14 +1,14 @@
 use Rattle.std.proofs.Common.{◌∙◌, subst}
-use Rattle.token_bytes.specs.Runs.{AreTold}
+use Rattle.token_bytes.specs.Runs.{AreDecoded}
 use Rattle.token_bytes.proofs.MarkLemmas.{length-tokens_in}
-use Rattle.token_bytes.proofs.RunLemmas.{told_packed}
+use Rattle.token_bytes.proofs.RunLemmas.{decoded_packed}
 use Rattle.token_bytes.proofs.buffer.TokenBuffer.tokens.Goals as goal
 
 pub of-requires : goal.of-requires
 of-requires c =
     let bytes = c.self.inside.stored.records in
     let table = c.self.inside.stored.texts.texts.items in
-    subst (λ n. AreTold n table bytes) (length-tokens_in c.self.inside.count table bytes) (told_packed _ bytes table c.self.invariant.0)
+    subst (λ n. AreDecoded n table bytes) (length-tokens_in c.self.inside.count table bytes) (decoded_packed _ bytes table c.self.invariant.0)
 
 pub returns : goal.returns
 returns c = c.of.ensures.items ∙ c.self.view_is

@@ -11,10 +11,10 @@ pub loop-at-preserved : goal.loop-at-preserved
 loop-at-preserved c =
     let texts = c.args.texts.now in
     let x = c.index-texts-at.result in
-    let tells : is_some (number_at c.loop-at.self x) ≡ is_some c.get.result = ap is_some (sym c.get.ensures) in
+    let same_some : is_some (number_at c.loop-at.self x) ≡ is_some c.get.result = ap is_some (sym c.get.ensures) in
     elim c.if-is_none.branch [
       | then-is_none+in_ok-clone+in_ok-insert w ↦
-          let absent : is_some (number_at c.loop-at.self x) ≡ false = tells ∙ c.is_none.ensures ∙ ap not w.if-is_none.true in
+          let absent : is_some (number_at c.loop-at.self x) ≡ false = same_some ∙ c.is_none.ensures ∙ ap not w.if-is_none.true in
           let copied : w.in_ok-clone.field-0 ≡ x = search rules in
           let put : (t : List ℕ) → number_at w.insert.new.self t ≡ (if pointwise nat_eq x t then Some c.loop-at.at else number_at c.loop-at.self t) =
           λ t. w.in_ok-insert.ensures.ok t ∙ ap (λ y. if pointwise nat_eq y t then Some c.loop-at.at else number_at c.loop-at.self t) copied in
@@ -22,7 +22,7 @@ loop-at-preserved c =
           c.loop-at.invariant absent put in
           λ t. rw w.self-is (new t)
       | else-is_none w ↦
-          let there : is_some (number_at c.loop-at.self x) ≡ true = tells ∙ c.is_none.ensures ∙ ap not w.if-is_none.false in
+          let there : is_some (number_at c.loop-at.self x) ≡ true = same_some ∙ c.is_none.ensures ∙ ap not w.if-is_none.false in
           let old = stays x texts c.loop-at.at (number_at c.loop-at.self) c.loop-at-test.true c.index-texts-at.is c.loop-at.invariant there in
           λ t. rw w.self-is (old t)
     ]

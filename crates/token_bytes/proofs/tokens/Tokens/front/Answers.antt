@@ -1,6 +1,6 @@
 use Rattle.std.proofs.Common.{◌≡◌, ◌+◌, ◌-◌, arith}
 use Rattle.token_bytes.specs.Items.{items, records_in, texts_in}
-use Rattle.token_bytes.proofs.RunLemmas.{told_first, tokens_first}
+use Rattle.token_bytes.proofs.RunLemmas.{decoded_first, tokens_first}
 use Rattle.token_bytes.proofs.TokensLemmas.{length-items}
 use Rattle.token_bytes.proofs.tokens.Tokens.front.Goals as goal
 
@@ -8,7 +8,7 @@ pub invariant_of-result : goal.invariant_of-result
 invariant_of-result c =
     let t = c.args.self in
     let parts : t.count ≡ c.args.count + (t.count - c.args.count) = omega (arith, c.requires, length-items t) in
-    record { told = told_first c.args.count (t.count - c.args.count) t.count (texts_in t) (records_in t) parts t.told }
+    record { decoded = decoded_first c.args.count (t.count - c.args.count) t.count (texts_in t) (records_in t) parts t.decoded }
 
 pub returns : goal.returns
 unfolding items

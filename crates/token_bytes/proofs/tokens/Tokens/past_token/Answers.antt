@@ -10,7 +10,7 @@ overflow_add-result c = omega (
   arith,
   c.requires.some,
   length-items c.args.self,
-  count_fits (option_map (λ s. s.now) c.args.self.stored) c.args.self.at c.args.self.count c.args.self.told,
+  count_fits (option_map (λ s. s.now) c.args.self.stored) c.args.self.at c.args.self.count c.args.self.decoded,
   c.stored_size-size.ensures.size,
   c.stored_size-size.ensures.fits,
 )
@@ -30,7 +30,7 @@ overflow_add-result-2 c = omega (
   place_most c.args.at (items c.args.self) c.requires.marked,
   place_fits c.args.at (items c.args.self) c.requires.marked,
   length-items c.args.self,
-  count_fits (option_map (λ s. s.now) c.args.self.stored) c.args.self.at c.args.self.count c.args.self.told,
+  count_fits (option_map (λ s. s.now) c.args.self.stored) c.args.self.at c.args.self.count c.args.self.decoded,
   c.stored_size-size.ensures.size,
   c.stored_size-size.ensures.fits,
   c.first_size.ensures,

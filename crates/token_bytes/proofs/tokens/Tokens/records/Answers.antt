@@ -6,7 +6,7 @@ use Rattle.token_bytes.proofs.tokens.Tokens.records.Goals as goal
 pub from-requires : goal.from-requires
 from-requires c = omega (
   arith,
-  at_below (option_map (λ s. s.now) c.args.self.stored) c.args.self.at c.args.self.count c.args.self.told c.requires,
+  at_below (option_map (λ s. s.now) c.args.self.stored) c.args.self.at c.args.self.count c.args.self.decoded c.requires,
   ap (λ o. stored_size (option_map (λ s. s.now) o)) c.in-Some.is,
   ap length c.bytes.ensures,
 )

@@ -1,9 +1,9 @@
 use Rattle.std.proofs.Common.{ap, arith, length, length-append}
 use Rattle.token_bytes.specs.Items.{items}
-use Rattle.token_bytes.proofs.buffer.TokenBuffer.put_all.Goals as goal
+use Rattle.token_bytes.proofs.buffer.TokenBuffer.store_all.Goals as goal
 
-pub put-requires : goal.put-requires
-put-requires c = omega (
+pub store-requires : goal.store-requires
+store-requires c = omega (
   arith,
   c.requires,
   ap length c.loop-token.invariant.0,

@@ -1,6 +1,6 @@
 use Rattle.std.proofs.Common.{◌≡◌, ◌++◌, length, take}
 use Rattle.token_bytes.specs.Items.{items}
-use Rattle.token_bytes.proofs.buffer.TokenBuffer.put_all.Given as goal
+use Rattle.token_bytes.proofs.buffer.TokenBuffer.store_all.Given as goal
 
 -- with those left it is all; what was there comes first
 abbrev pub invariant-loop-token : goal.invariant-loop-token

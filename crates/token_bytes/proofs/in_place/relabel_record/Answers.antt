@@ -1,9 +1,9 @@
 use Rattle.std.proofs.Common.{◌∙◌, ap, arith, drop, inl, inr}
-use Rattle.token_bytes.specs.Anchors.{answer_of}
+use Rattle.token_storage.specs.Anchors.{answer_of}
 use Rattle.token_bytes.specs.Records.{first_size}
 use Rattle.token_bytes.proofs.PatchLemmas.{record_renamed, size_at}
-use Rattle.token_bytes.proofs.relabel.relabel_record.Goals.{then-size-eq31, else-size-eq31}
-use Rattle.token_bytes.proofs.relabel.relabel_record.Goals as goal
+use Rattle.token_bytes.proofs.in_place.relabel_record.Goals.{then-size-eq31, else-size-eq31}
+use Rattle.token_bytes.proofs.in_place.relabel_record.Goals as goal
 
 pub returns-clause-bytes : goal.returns-clause-bytes
 returns-clause-bytes c = λ r.

@@ -2,7 +2,7 @@
 use Rattle.std.proofs.Common.{◌≡◌, ◌∙◌, ◌+◌, ◌^◌, refl, arith, length}
 use Rattle.token_bytes.specs.Records.{text_of}
 use Rattle.token_bytes.proofs.MarkLemmas.{distinct_in, distinct_left, held_again, held_more, left_is, room_in}
-use Rattle.token_bytes.proofs.buffer.TokenBuffer.put.Goals as goal
+use Rattle.token_bytes.proofs.buffer.TokenBuffer.store.Goals as goal
 
 pub append-requires-clause-room : goal.append-requires-clause-room
 append-requires-clause-room c = (room_in c.args.self.now _ (2 ^ 32) _ _ c.self.invariant.0 c.self.view_is c.requires.room).0

@@ -1,17 +1,15 @@
-//! Replaces the anchors of stored tokens, in place.
-ghost use Rattle.std.specs.Prelude.{◌≡◌, ◌++◌, ◌+◌, ◌≤◌, length, map};
+//! Changes records in place.
+ghost use Rattle.std.specs.Prelude.{◌≡◌, ◌++◌, ◌+◌, ◌≤◌, length};
 ghost use Rattle.token_storage.specs.Records.{alone_token};
-ghost use Rattle.tt_data.specs.Spans.{anchor_with, token_with};
-ghost use Rattle.token_bytes.specs.Anchors.{IsAtHand, answer_of};
+ghost use Rattle.token_storage.specs.Anchors.{IsAtHand, answer_of};
 ghost use Rattle.token_bytes.specs.Marks.{record_size};
 ghost use Rattle.token_bytes.specs.Records.{token_bytes};
 ghost use Rattle.token_bytes.specs.Relabelled.{RecordAt, renamed_span, renamed_token};
 
-use crate::buffer::TokenBuffer;
 use crate::reading::{first_size, from, span_in};
-use crate::renaming::Renaming;
 use crate::writing::span_bytes;
 use byte_buffer::ByteBuffer;
+use token_storage::Renaming;
 use tt_data::Span;
 
 /// Makes the record at a byte that of a punct that is `Alone`, if it is of a punct.
@@ -40,8 +38,8 @@ fn relabel_span(records: &mut ByteBuffer, at: usize, renaming: &Renaming)
     records.patch(at, &span_bytes(renamed));
 }
 
-// Replaces the anchors of the record at a byte. The byte behind it.
-fn relabel_record(records: &mut ByteBuffer, at: usize, renaming: &Renaming) -> usize
+/// Replaces the anchors of the record at a byte. The byte behind it.
+pub(crate) fn relabel_record(records: &mut ByteBuffer, at: usize, renaming: &Renaming) -> usize
     requires hand { IsAtHand renaming.now }
     requires record { RecordAt at records.old }
     ensures bytes { (r : RecordAt at records.old) → records.new ≡ r.before
@@ -56,19 +54,4 @@ fn relabel_record(records: &mut ByteBuffer, at: usize, renaming: &Renaming) -> u
         relabel_span(records, at + 14, renaming);
     }
     at + size
-}
-
-impl TokenBuffer {
-    /// Replaces the anchors of each token.
-    pub fn relabel(&mut self, renaming: &Renaming)
-        requires { IsAtHand renaming.now }
-        ensures { self.new ≡ map (token_with (anchor_with (answer_of renaming.now))) self.old }
-    {
-        let mut at = 0;
-        let mut left = self.count;
-        while left > 0 {
-            at = relabel_record(&mut self.stored.records, at, renaming);
-            left -= 1;
-        }
-    }
 }
