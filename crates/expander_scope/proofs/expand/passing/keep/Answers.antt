@@ -5,7 +5,7 @@ use Rattle.tt_data.specs.Walk.{walk}
 use Rattle.expander_model.specs.Expansion.{placed}
 use Rattle.expander_scope.specs.Sinks.{TakesMore}
 use Rattle.expander_scope.proofs.CallResultLemmas.{adds_just}
-use Rattle.expander_scope.proofs.expand.keep.Goals as goal
+use Rattle.expander_scope.proofs.expand.passing.keep.Goals as goal
 
 pub returns-clause-adds : goal.returns-clause-adds
 returns-clause-adds g c = λ passed e.

@@ -3,7 +3,7 @@ use Rattle.expander_model.specs.PieceStates.{after_name}
 use Rattle.expander_scope.specs.ListsLeft.{Place}
 use Rattle.expander_scope.specs.Turns.{IsAt}
 use Rattle.expander_scope.proofs.GoesLemmas.{entered, goes_kept, kept_less, never_at_end}
-use Rattle.expander_scope.proofs.expand.keep_call.Goals as goal
+use Rattle.expander_scope.proofs.expand.passing.keep_call.Goals as goal
 
 pub returns : goal.returns
 returns g c = record {

@@ -7,7 +7,7 @@ use Rattle.tt_data.specs.Lent.{leaf_lent}
 use Rattle.expander_scope.specs.Turns.{shown_of}
 use Rattle.expander_scope.proofs.CallResultLemmas.{adds_just}
 use Rattle.expander_scope.proofs.GoesLemmas.{passes_leaf, passes_in, passes_out}
-use Rattle.expander_scope.proofs.expand.pass_event.Goals as goal
+use Rattle.expander_scope.proofs.expand.passing.pass_event.Goals as goal
 
 pub returns-in_ok-show_leaf-in-Leaf-clause-turn : goal.returns-in_ok-show_leaf-in-Leaf-clause-turn
 returns-in_ok-show_leaf-in-Leaf-clause-turn g c = λ so dialect world scope levels edition p at pass.

@@ -11,7 +11,7 @@ use Rattle.expander_scope.specs.Outcomes.{numbered_of_known}
 use Rattle.expander_scope.proofs.CallResultLemmas.{adds_defined}
 use Rattle.expander_scope.proofs.HeldLemmas.{some_is}
 use Rattle.expander_scope.proofs.LocalLemmas.{known_as}
-use Rattle.expander_scope.proofs.expand.define.Goals as goal
+use Rattle.expander_scope.proofs.expand.passing.define.Goals as goal
 
 pub returns-clause-adds : goal.returns-clause-adds
 returns-clause-adds g c = λ d locals is.

@@ -12,7 +12,7 @@ use Rattle.mbe_rules.specs.declared.macro_call_style.MacroCallStyle.TheVariants.
 use Rattle.expander_model.specs.Limits.{calls_of, sized}
 use Rattle.expander_model.specs.World.{fit_of, made}
 use Rattle.expander_scope.specs.Spending.{left_behind}
-use Rattle.expander_scope.proofs.expand.fit.Goals as goal
+use Rattle.expander_scope.proofs.expand.answer.fit.Goals as goal
 
 -- the trees of what a rule gives
 inner_of : (top : Delimiter) (o : Option (ℕ × Forest)) (given : Option (ℕ × Top)) → given ≡ option_map (λ (r : ℕ × Forest). (r.0, within top r.1)) o

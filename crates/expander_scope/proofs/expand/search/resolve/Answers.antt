@@ -3,7 +3,7 @@ use Rattle.expander_scope.specs.LocalTables.{locals_of}
 use Rattle.expander_scope.specs.Outcomes.{find_of}
 use Rattle.expander_scope.specs.ScopeTable.{scope_in}
 use Rattle.expander_scope.proofs.CallResultLemmas.{no_lookup}
-use Rattle.expander_scope.proofs.expand.resolve.Goals as goal
+use Rattle.expander_scope.proofs.expand.search.resolve.Goals as goal
 
 pub returns-in-Some-clause-known : goal.returns-in-Some-clause-known
 returns-in-Some-clause-known g c = (rw c.in-Some.is at c.in_ok-local.ensures.rules) c.args.env.now.scope.now.edition c.requires.locals
