@@ -79,12 +79,6 @@ module _ (layers : Layers) (depth : ℕ) (initial : List Definition) where
   abbrev pub IsFound : List ℕ → ℕ → Found → Type 0
   IsFound text at found = IsFoundIn (layers.read text) at found
 
-  -- this is said of a call around a byte of a text that is read so, in the last piece that begins
-  -- at or before the byte
-  abbrev pub answer_near : Result Forest ReadFault → ℕ → Option Answer
-  answer_near (Err fault) at = None
-  answer_near (Ok f) at = last_answer at (members_in layers depth initial f)
-
   -- it has such a call, where it is read so
   abbrev pub HasTooManyIn : Result Forest ReadFault → Type 0
   HasTooManyIn (Err fault) = ⊥

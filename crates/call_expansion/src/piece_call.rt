@@ -91,7 +91,7 @@ fn define_all(
 }
 
 /// The last of these pieces that begins at or before a byte, and those before it.
-pub fn last_begun(pieces: &[Piece], at: u32) -> Option<(&[Piece], &Piece)>
+pub fn last_at(pieces: &[Piece], at: u32) -> Option<(&[Piece], &Piece)>
     ensures none { result ≡ None → All (λ (o : Piece). at < o.start) pieces.now }
     ensures some { IfSome result (λ r. (after : List Piece)
         × (pieces.now ≡ r.0.now ++ (r.1.now ∷ after)) × (r.1.now.start ≤ at)
@@ -159,7 +159,7 @@ pub fn call_in_pieces<G: FragmentGrammar>(
         (text_layers (G.answer by.now.grammar.now) by.now.edition by.now.dialect.now)
         by.now.depth (definitions_after [] prelude.now) (map piece_at pieces.now)) ≡ true }
 {
-    match last_begun(pieces, at) {
+    match last_at(pieces, at) {
         Some((before, piece)) => call_behind(alloc, by, prelude, before, piece, at),
         None => Ok(None),
     }
