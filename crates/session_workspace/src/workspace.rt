@@ -20,6 +20,7 @@ use any_grammar::AnyGrammar;
 use client_texts::{Change, Note};
 use expander_session::session::Session;
 use lsp_server::{Question, Workspace};
+use pieced_text::PiecedText;
 use serde_json::Value;
 use std::alloc::{AllocError, Global};
 
@@ -39,14 +40,18 @@ pub struct SessionWorkspace<S> {
     pub(crate) setup: S,
     pub(crate) shown: Shown,
     pub(crate) texts: Vec<OpenText>,
+    /// The text that was asked about last, if there is one. It may be one that is closed.
+    pub(crate) asked: Option<PiecedText>,
 }
 
-// The answer to a question about a session's text, which has this name.
+// The answer to a question about a session's text, which has this name. `asked` is the text that
+// was asked about last.
 fn answer_of(
     alloc: Global,
     question: Question,
     uri: &str,
     session: &Session<AnyGrammar>,
+    asked: &mut Option<PiecedText>,
 ) -> Result<Value, AllocError>
     ensures { IfOk result (λ v.
         length session.now.text < 2 ^ 32 → Answers question session.now (view v)) }
@@ -56,8 +61,8 @@ fn answer_of(
         return Ok(Value::Null);
     }
     match question {
-        Question::Hover(place) => hover_at(alloc, session, place),
-        Question::Expansion(place) => expansion_at(alloc, session, place),
+        Question::Hover(place) => hover_at(alloc, session, place, asked),
+        Question::Expansion(place) => expansion_at(alloc, session, place, asked),
         Question::Symbols => symbols_of(alloc, text),
         Question::Definition(place) => definition_at(alloc, uri, text, place),
     }
@@ -86,6 +91,7 @@ impl<S: Setup> SessionWorkspace<S> {
             setup,
             shown,
             texts: Vec::new(alloc),
+            asked: None,
         }
     }
 
@@ -222,7 +228,8 @@ impl<S: Setup> Workspace for SessionWorkspace<S> {
         let Some(i) = find(self.texts.as_slice(), uri) else {
             return Ok(None);
         };
-        let answer = answer_of(self.alloc, question, uri, &self.texts[i].session)?;
+        let session = &self.texts[i].session;
+        let answer = answer_of(self.alloc, question, uri, session, &mut self.asked)?;
         Ok(Some(answer))
     }
 }

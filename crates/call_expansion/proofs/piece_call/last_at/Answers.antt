@@ -1,7 +1,7 @@
 use Rattle.std.proofs.Common.{◌≡◌, ◌∙◌, ◌+◌, ◌-◌, ◌<◌, ◌≤◌, ◌++◌, ◌∷◌, ℕ, List, ap, arith, drop, get_or, length, refl, subst, take}
 use Rattle.expander_reparse.specs.declared.piece.Piece.{Piece}
 use Rattle.call_expansion.proofs.LastLemmas.{parts, same_at}
-use Rattle.call_expansion.proofs.piece_call.last_begun.Goals as goal
+use Rattle.call_expansion.proofs.piece_call.last_at.Goals as goal
 
 pub returns-then-pieces-last-clause-some : goal.returns-then-pieces-last-clause-some
 returns-then-pieces-last-clause-some c =

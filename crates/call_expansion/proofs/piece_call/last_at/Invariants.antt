@@ -1,7 +1,7 @@
 use Rattle.std.proofs.Common.{◌<◌, ◌≤◌, drop, length}
 use Rattle.std.specs.Prelude.{All}
 use Rattle.expander_reparse.specs.declared.piece.Piece.{Piece}
-use Rattle.call_expansion.proofs.piece_call.last_begun.Given as goal
+use Rattle.call_expansion.proofs.piece_call.last_at.Given as goal
 
 -- all that are behind begin behind the byte
 abbrev pub invariant-loop-count : goal.invariant-loop-count
