@@ -26,15 +26,21 @@ use Rattle.session_workspace.specs.declared.open_text.OpenText.{OpenText}
 abbrev pub byte_at : List ℕ → Position → ℕ
 byte_at text p = min (length text) (offset_of text p.line p.column)
 
--- this is said of the call at a position of a session's text, by its options and after its
--- prelude: what the text's meaning says in the last piece that begins at or before the byte; nothing
--- where the text, or what a rule puts out, has too many tokens
-abbrev pub IsSaidAt : State AnyGrammar → Position → Option Called → Type 0
-IsSaidAt s place called = (option_map answer_in called
+-- the text's meaning says this of the call at a position of a session's text, by its options and
+-- after its prelude: in the last piece that begins at or before the byte
+abbrev pub Says : State AnyGrammar → Position → Option Called → Type 0
+Says s place called = option_map answer_in called
     ≡ answer_near (text_layers (answer s.grammar) s.edition s.dialect) s.depth
-    (definitions_of s.prelude) s.text (byte_at s.text place))
-    ⊎ ((called ≡ None) × NeedsTooMany (text_layers (answer s.grammar) s.edition s.dialect) s.depth
-    (definitions_of s.prelude) s.text)
+    (definitions_of s.prelude) s.text (byte_at s.text place)
+
+-- a session's text, or what a rule puts out, has too many tokens
+abbrev pub NeedsTooManyIn : State AnyGrammar → Type 0
+NeedsTooManyIn s = NeedsTooMany (text_layers (answer s.grammar) s.edition s.dialect) s.depth
+    (definitions_of s.prelude) s.text
+
+-- this is said at a position: what the meaning says, or nothing for too many tokens
+abbrev pub IsSaidAt : State AnyGrammar → Position → Option Called → Type 0
+IsSaidAt s place called = Says s place called ⊎ ((called ≡ None) × NeedsTooManyIn s)
 
 -- a text has the words of a printed one
 abbrev pub IsLaidOut : (printed laid : List ℕ) → Type 0

@@ -228,8 +228,13 @@ impl<S: Setup> Workspace for SessionWorkspace<S> {
         let Some(i) = find(self.texts.as_slice(), uri) else {
             return Ok(None);
         };
-        let session = &self.texts[i].session;
-        let answer = answer_of(self.alloc, question, uri, session, &mut self.asked)?;
+        let answer = answer_of(
+            self.alloc,
+            question,
+            uri,
+            &self.texts[i].session,
+            &mut self.asked,
+        )?;
         Ok(Some(answer))
     }
 }
