@@ -2,9 +2,9 @@
 ghost use Rattle.std.specs.Prelude.{◌≡◌, ◌<◌, ◌^◌, Err, IfOk, List, length, string_bytes, ℕ};
 ghost use Rattle.serde_json.specs.View.{view};
 ghost use Rattle.tt_data.specs.fault.TtFault.TheVariants as fault;
-ghost use Rattle.session_workspace.specs.Questions.{IsHoverText, IsLaidOut, IsSaidAt};
-ghost use Rattle.session_workspace.specs.Questions.{NeedsTooManyIn, Says, ShowsCall};
-ghost use Rattle.session_workspace.specs.Questions.{ShowsExpansion, ShowsHover};
+ghost use Rattle.session_workspace.specs.Layouts.{IsLaidOut};
+ghost use Rattle.session_workspace.specs.Questions.{IsHoverText, IsSaidAt, NeedsTooManyIn, Says};
+ghost use Rattle.session_workspace.specs.Questions.{ShowsCall, ShowsExpansion, ShowsHover};
 ghost use Rattle.session_workspace.specs.Questions.{ShowsTokens, code_block, expansion_data};
 ghost use Rattle.session_workspace.specs.Questions.{hover_data};
 
