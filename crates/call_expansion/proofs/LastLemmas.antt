@@ -1,6 +1,6 @@
 -- The last piece that begins at or before a byte.
 use Rattle.std.proofs.Common.{◌≡◌, ◌∙◌, ◌<◌, ◌≤◌, ◌+◌, ℕ, suc, Bool, true, false, List, [], ◌∷◌, ◌++◌, ap, arith, drop, get_or, length, map, refl, subst, sym, take}
-use Rattle.std.specs.Prelude.{All, Option, Some, None, Result, Ok, is_some, leb, ◌||◌, option_and_then, option_map}
+use Rattle.std.specs.Prelude.{All, Option, Some, None, Result, Ok, Err, is_some, leb, ◌||◌, option_and_then, option_map}
 use Rattle.std.specs.List.{list_any}
 use Rattle.std.proofs.lemmas.Grind.{common_steps}
 use Rattle.std.proofs.lemmas.List.{drop_more, map-append, take-append-drop, take_more}
@@ -133,6 +133,12 @@ module _ (layers : Layers) (depth at : ℕ) (initial : List Definition) (read : 
   near_bursts e =
       subst (HasTooManyIn layers depth initial) (sym is_read)
       (sym (ap (λ (qs : List Forest). list_any bursts (members_after layers depth initial qs)) are) ∙ e)
+
+-- nothing is said where it cannot be read
+pub near_none : (layers : Layers) (depth at : ℕ) (initial : List Definition) (read : Result Forest ReadFault) (fault : ReadFault) → read ≡ Err fault
+    → None ≡ answer_near_in layers depth initial read at
+near_none layers depth at initial read fault is_read =
+    sym (ap (λ (r : Result Forest ReadFault). answer_near_in layers depth initial r at) is_read)
 
 -- ---- a piece at its place among pieces
 

@@ -7,14 +7,15 @@ use Rattle.any_grammar.specs.declared.chosen.AnyGrammar.{AnyGrammar}
 use Rattle.bridge.specs.declared.printing.printer.Printed.{Printed}
 use Rattle.call_expansion.specs.Texts.{NeedsTooMany, answer_in, answer_near, text_layers}
 use Rattle.call_expansion.specs.declared.answer.Called.{Called}
-use Rattle.code_layout.specs.Words.{words_of}
 use Rattle.expander_model.specs.declared.fault.FaultKind.{FaultKind}
 use Rattle.expander_run.specs.Lines.{fault_words}
 use Rattle.expander_session.specs.State.{State, definitions_of}
 use Rattle.line_index.specs.Lines.{offset_of}
 use Rattle.line_index.specs.declared.positions.Position.{Position}
 use Rattle.lsp_server.specs.declared.workspace.Question.{Question}
-use Rattle.lsp_server.specs.declared.workspace.Question.TheVariants.{Hover, Definition, Symbols, Expansion}
+use Rattle.lsp_server.specs.declared.workspace.Question.TheVariants.{Hover, Definition, Symbols, Expansion, Actions}
+use Rattle.session_workspace.specs.Actions.{OffersActions}
+use Rattle.session_workspace.specs.Layouts.{IsLaidOut}
 use Rattle.session_workspace.specs.OpenTexts.{HaveNone, is_named}
 use Rattle.session_workspace.specs.Ranges.{range_data}
 use Rattle.session_workspace.specs.Symbols.{ListsSymbols}
@@ -26,19 +27,21 @@ use Rattle.session_workspace.specs.declared.open_text.OpenText.{OpenText}
 abbrev pub byte_at : List ℕ → Position → ℕ
 byte_at text p = min (length text) (offset_of text p.line p.column)
 
--- this is said of the call at a position of a session's text, by its options and after its
--- prelude: what the text's meaning says in the last piece that begins at or before the byte; nothing
--- where the text, or what a rule puts out, has too many tokens
-abbrev pub IsSaidAt : State AnyGrammar → Position → Option Called → Type 0
-IsSaidAt s place called = (option_map answer_in called
+-- the text's meaning says this of the call at a position of a session's text, by its options and
+-- after its prelude: in the last piece that begins at or before the byte
+abbrev pub Says : State AnyGrammar → Position → Option Called → Type 0
+Says s place called = option_map answer_in called
     ≡ answer_near (text_layers (answer s.grammar) s.edition s.dialect) s.depth
-    (definitions_of s.prelude) s.text (byte_at s.text place))
-    ⊎ ((called ≡ None) × NeedsTooMany (text_layers (answer s.grammar) s.edition s.dialect) s.depth
-    (definitions_of s.prelude) s.text)
+    (definitions_of s.prelude) s.text (byte_at s.text place)
 
--- a text has the words of a printed one
-abbrev pub IsLaidOut : (printed laid : List ℕ) → Type 0
-IsLaidOut printed laid = words_of laid ≡ words_of printed
+-- a session's text, or what a rule puts out, has too many tokens
+abbrev pub NeedsTooManyIn : State AnyGrammar → Type 0
+NeedsTooManyIn s = NeedsTooMany (text_layers (answer s.grammar) s.edition s.dialect) s.depth
+    (definitions_of s.prelude) s.text
+
+-- this is said at a position: what the meaning says, or nothing for too many tokens
+abbrev pub IsSaidAt : State AnyGrammar → Position → Option Called → Type 0
+IsSaidAt s place called = Says s place called ⊎ ((called ≡ None) × NeedsTooManyIn s)
 
 -- the name of a macro, and what came of a call of it
 abbrev pub expansion_data : (name laid : List ℕ) → Data
@@ -88,12 +91,13 @@ abbrev pub ShowsCall : (Option Called → Data → Type 0) → State AnyGrammar 
 ShowsCall Shows s place told =
     (called : Option Called) × IsSaidAt s place called × Shows called told
 
--- an answer to a question about a text; that a call's definition is found is not said
-abbrev pub Answers : Question → State AnyGrammar → Data → Type 0
-Answers (Hover place) s told = ShowsCall (ShowsHover s.text) s place told
-Answers (Expansion place) s told = ShowsCall ShowsExpansion s place told
-Answers Symbols s told = ListsSymbols s.text told
-Answers (Definition place) s told = ⊤
+-- an answer to a question about a text of this name; that a call's definition is found is not said
+abbrev pub Answers : Question → (uri : List ℕ) → State AnyGrammar → Data → Type 0
+Answers (Hover place) uri s told = ShowsCall (ShowsHover s.text) s place told
+Answers (Expansion place) uri s told = ShowsCall ShowsExpansion s place told
+Answers (Actions place) uri s told = ShowsCall (OffersActions uri s.text) s place told
+Answers Symbols uri s told = ListsSymbols s.text told
+Answers (Definition place) uri s told = ⊤
 
 -- an answer about the open text of this name, or none where none has it. A session's text has less
 -- than 2^32 bytes
@@ -101,4 +105,4 @@ abbrev pub IsAnswered : Question → List ℕ → List OpenText → Option Data 
 IsAnswered question uri texts None = HaveNone uri texts
 IsAnswered question uri texts (Some told) = (t : OpenText) × Contains texts t
     × (is_named uri t ≡ true)
-    × (length t.session.text < 2 ^ 32 → Answers question t.session told)
+    × (length t.session.text < 2 ^ 32 → Answers question uri t.session told)

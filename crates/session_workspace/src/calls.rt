@@ -1,8 +1,10 @@
 //! What comes of the call at a place of a text.
-ghost use Rattle.std.specs.Prelude.{◌≡◌, ◌<◌, ◌^◌, IfOk, List, length, string_bytes, ℕ};
+ghost use Rattle.std.specs.Prelude.{◌≡◌, ◌<◌, ◌^◌, Err, IfOk, List, length, string_bytes, ℕ};
 ghost use Rattle.serde_json.specs.View.{view};
-ghost use Rattle.session_workspace.specs.Questions.{IsHoverText, IsLaidOut, IsSaidAt, ShowsCall};
-ghost use Rattle.session_workspace.specs.Questions.{ShowsExpansion, ShowsHover};
+ghost use Rattle.tt_data.specs.fault.TtFault.TheVariants as fault;
+ghost use Rattle.session_workspace.specs.Layouts.{IsLaidOut};
+ghost use Rattle.session_workspace.specs.Questions.{IsHoverText, IsSaidAt, NeedsTooManyIn, Says};
+ghost use Rattle.session_workspace.specs.Questions.{ShowsCall, ShowsExpansion, ShowsHover};
 ghost use Rattle.session_workspace.specs.Questions.{ShowsTokens, code_block, expansion_data};
 ghost use Rattle.session_workspace.specs.Questions.{hover_data};
 
@@ -38,17 +40,17 @@ fn followed(alloc: Global, asked: Option<PiecedText>, text: &str) -> Result<Piec
     }
 }
 
-/// What is said of the call at a place of a session's text. `None` if there is none, or that takes
-/// too many tokens. `asked` is the text that was asked about last: it becomes this text. If there is
-/// no memory for that, it is none.
-pub(crate) fn call_at(
+// What is said of the call at a place of a session's text. `asked` is the text that was asked about
+// last: it becomes this text. If there is no memory for that, it is none.
+fn said_at(
     alloc: Global,
     session: &Session<AnyGrammar>,
     place: Position,
     asked: &mut Option<PiecedText>,
-) -> Result<Option<Called>, AllocError>
+) -> Result<Option<Called>, TtFault>
     requires { length session.now.text < 2 ^ 32 }
-    ensures { IfOk result (IsSaidAt session.now place) }
+    ensures says { IfOk result (Says session.now place) }
+    ensures tokens { result ≡ Err fault.Tokens → NeedsTooManyIn session.now }
 {
     let text = session.text();
     let at = text.len().min(offset_of(text, place)) as u32;
@@ -59,9 +61,23 @@ pub(crate) fn call_at(
         depth: session.depth(),
     };
     let mut pieced = followed(alloc, asked.take(), text)?;
-    let called = call_in_followed(alloc, &by, session.prelude(), &mut pieced, at);
+    let said = call_in_followed(alloc, &by, session.prelude(), &mut pieced, at);
     *asked = Some(pieced);
-    match called {
+    said
+}
+
+/// What is said of the call at a place of a session's text. `None` if there is none, or that takes
+/// too many tokens. `asked` is the text that was asked about last: it becomes this text.
+pub(crate) fn call_at(
+    alloc: Global,
+    session: &Session<AnyGrammar>,
+    place: Position,
+    asked: &mut Option<PiecedText>,
+) -> Result<Option<Called>, AllocError>
+    requires { length session.now.text < 2 ^ 32 }
+    ensures { IfOk result (IsSaidAt session.now place) }
+{
+    match said_at(alloc, session, place, asked) {
         Ok(called) => Ok(called),
         Err(TtFault::Tokens) => Ok(None),
         Err(_) => Err(AllocError),

@@ -9,6 +9,7 @@ ghost use Rattle.session_workspace.specs.OpenTexts.{IsFirstOf, IsLost, IsTold, I
 ghost use Rattle.session_workspace.specs.OpenTexts.{IsToldOf, Tells, document_of, documents_of};
 ghost use Rattle.session_workspace.specs.Questions.{Answers, IsAnswered};
 
+use crate::actions::actions_at;
 use crate::calls::{expansion_at, hover_at};
 use crate::definitions::definition_at;
 use crate::diagnostics::withdrawal;
@@ -54,7 +55,7 @@ fn answer_of(
     asked: &mut Option<PiecedText>,
 ) -> Result<Value, AllocError>
     ensures { IfOk result (λ v.
-        length session.now.text < 2 ^ 32 → Answers question session.now (view v)) }
+        length session.now.text < 2 ^ 32 → Answers question uri.now session.now (view v)) }
 {
     let text = session.text();
     if text.len() > u32::MAX as usize {
@@ -63,6 +64,7 @@ fn answer_of(
     match question {
         Question::Hover(place) => hover_at(alloc, session, place, asked),
         Question::Expansion(place) => expansion_at(alloc, session, place, asked),
+        Question::Actions(place) => actions_at(alloc, uri, session, place, asked),
         Question::Symbols => symbols_of(alloc, text),
         Question::Definition(place) => definition_at(alloc, uri, text, place),
     }
@@ -228,8 +230,13 @@ impl<S: Setup> Workspace for SessionWorkspace<S> {
         let Some(i) = find(self.texts.as_slice(), uri) else {
             return Ok(None);
         };
-        let session = &self.texts[i].session;
-        let answer = answer_of(self.alloc, question, uri, session, &mut self.asked)?;
+        let answer = answer_of(
+            self.alloc,
+            question,
+            uri,
+            &self.texts[i].session,
+            &mut self.asked,
+        )?;
         Ok(Some(answer))
     }
 }
