@@ -1,4 +1,0 @@
--- lemmas by subject
-mod AskedLemmas
-mod FloatLemmas
-mod ListLemmas
