@@ -23,6 +23,7 @@ CAPABILITIES = {
         "hoverProvider": True,
         "definitionProvider": True,
         "documentSymbolProvider": True,
+        "codeActionProvider": {"codeActionKinds": ["refactor.inline"]},
     },
 }
 REFUSALS = {
@@ -54,6 +55,13 @@ def place_at(value, name):
     place = member(value, name)
     line, column = (number_at(place, it, 0, 2**64 - 1) for it in ("line", "character"))
     return None if None in (line, column) else (line, column)
+
+
+# The place that parameters of a question are about.
+def place_asked(method, params):
+    if method == ACTIONS:
+        return place_at(member(params, "range"), "start")
+    return place_at(params, "position")
 
 
 def uri_of(params):
@@ -241,13 +249,26 @@ def expansion(program, uri, text, place):
     return None if laid is None else {"name": Name(), "expansion": laid}
 
 
+# What may be done at a place: a call that gives tokens may be replaced by them.
+def actions(program, uri, text, place):
+    laid, _why = called(program, text, place)
+    if not laid:
+        return []
+    around = Around(texts.place_of(text, texts.index_of(text, *place)))
+    edit = {"changes": {uri: [{"range": around, "newText": laid}]}}
+    title = "Replace this call by its tokens"
+    return [{"title": title, "kind": "refactor.inline", "edit": edit}]
+
+
 SYMBOLS, DEFINITION = "textDocument/documentSymbol", "textDocument/definition"
+ACTIONS = "textDocument/codeAction"
 # Which answer each question gets: a new one has its function here.
 ANSWERS = {
     SYMBOLS: symbols,
     DEFINITION: definition,
     "textDocument/hover": hover,
     "rust-analyzer/expandMacro": expansion,
+    ACTIONS: actions,
 }
 
 
@@ -307,7 +328,7 @@ class Server:
         return self.answer_about(id, method, params)
 
     def answer_about(self, id, method, params):
-        uri, place = uri_of(params), place_at(params, "position")
+        uri, place = uri_of(params), place_asked(method, params)
         if uri not in self.documents or (place is None and method != SYMBOLS):
             return failure(id, INVALID_PARAMS)
         text, _version = self.documents[uri]

@@ -222,11 +222,14 @@ class Client:
     # ---- what it asks
 
     def question(self):
-        uri = self.uri()
-        params = {"textDocument": {"uri": uri}, "position": self.called_place(uri)}
+        uri, method = self.uri(), self.pick([model.DEFINITION, *model.ANSWERS])
+        place = self.called_place(uri)
+        about = {"position": place}
+        if method == model.ACTIONS:
+            about = {"range": {"start": place, "end": self.pick([place, FAR[0]])}, "context": {}}
+        params = {"textDocument": {"uri": uri}, **about}
         if self.is_likely(10):
-            params = self.pick([None, [], {}, {"textDocument": {"uri": uri}}, {"position": FAR[0]}])
-        method = self.pick([model.DEFINITION, *model.ANSWERS])
+            params = self.pick([None, [], {}, {"textDocument": {"uri": uri}}, about])
         return self.request(method, params)
 
     # A place, often in the name of a call.

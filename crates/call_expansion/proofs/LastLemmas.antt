@@ -1,16 +1,17 @@
 -- The last piece that begins at or before a byte.
 use Rattle.std.proofs.Common.{◌≡◌, ◌∙◌, ◌<◌, ◌≤◌, ◌+◌, ℕ, suc, Bool, true, false, List, [], ◌∷◌, ◌++◌, ap, arith, drop, get_or, length, map, refl, subst, sym, take}
-use Rattle.std.specs.Prelude.{All, Option, Some, None, is_some, leb, ◌||◌, option_and_then, option_map}
+use Rattle.std.specs.Prelude.{All, Option, Some, None, Result, Ok, Err, is_some, leb, ◌||◌, option_and_then, option_map}
 use Rattle.std.specs.List.{list_any}
 use Rattle.std.proofs.lemmas.Grind.{common_steps}
 use Rattle.std.proofs.lemmas.List.{drop_more, map-append, take-append-drop, take_more}
 use Rattle.std.proofs.lemmas.List.Elements.{All-cons, All-head, All-nil, All-tail}
 use Rattle.tt.specs.Tops.{Top}
 use Rattle.tt_data.specs.Forest.{Forest}
+use Rattle.bridge.specs.declared.reading.outcome.ReadFault.{ReadFault}
 use Rattle.cfg_options.specs.Conditions.{or_else}
 use Rattle.expander_model.specs.Definitions.{Definition, definition_of}
 use Rattle.expander_model.specs.Meaning.{Layers, Member, definitions_after, member, members_after, with_definition}
-use Rattle.expander_model.specs.Pieces.{first_start}
+use Rattle.expander_model.specs.Pieces.{first_start, pieces}
 use Rattle.expander_model.specs.Held.{moved_on}
 use Rattle.expander_model.specs.OtherPlaces.{definition_with}
 use Rattle.expander_model.specs.declared.dialect.Dialect.{Dialect}
@@ -20,7 +21,7 @@ use Rattle.expander_reparse.specs.declared.piece.Piece.{Piece}
 use Rattle.expander_scope.specs.declared.scope.Scope as table
 use Rattle.call_expansion.specs.Answers.{Answer}
 use Rattle.call_expansion.specs.InScope.{HasInScope}
-use Rattle.call_expansion.specs.Texts.{begin_of, bursts, last_answer, last_at, member_answer}
+use Rattle.call_expansion.specs.Texts.{HasTooManyIn, answer_near_in, begin_of, bursts, last_answer, last_at, member_answer}
 use Rattle.call_expansion.proofs.ScopeLemmas.{after_more}
 
 or_true : (a b : Bool) → b ≡ true → (a || b) ≡ true
@@ -119,6 +120,25 @@ module _ (layers : Layers) (depth at : ℕ) where
       too_many e =
           ap (λ (ps : List Forest). list_any bursts (members_after layers depth initial ps)) split
           ∙ bursts_there initial (map piece_at before) (piece_at o) (map piece_at after) e
+
+-- ---- pieces of a text
+
+module _ (layers : Layers) (depth at : ℕ) (initial : List Definition) (read : Result Forest ReadFault) (f : Forest) (is_read : read ≡ Ok f) (ps : List Forest) (are : ps ≡ pieces f) where
+  pub near_is : last_answer at (members_after layers depth initial ps) ≡ answer_near_in layers depth initial read at
+  near_is =
+      ap (λ (qs : List Forest). last_answer at (members_after layers depth initial qs)) are
+      ∙ sym (ap (λ (r : Result Forest ReadFault). answer_near_in layers depth initial r at) is_read)
+
+  pub near_bursts : list_any bursts (members_after layers depth initial ps) ≡ true → HasTooManyIn layers depth initial read
+  near_bursts e =
+      subst (HasTooManyIn layers depth initial) (sym is_read)
+      (sym (ap (λ (qs : List Forest). list_any bursts (members_after layers depth initial qs)) are) ∙ e)
+
+-- nothing is said where it cannot be read
+pub near_none : (layers : Layers) (depth at : ℕ) (initial : List Definition) (read : Result Forest ReadFault) (fault : ReadFault) → read ≡ Err fault
+    → None ≡ answer_near_in layers depth initial read at
+near_none layers depth at initial read fault is_read =
+    sym (ap (λ (r : Result Forest ReadFault). answer_near_in layers depth initial r at) is_read)
 
 -- ---- a piece at its place among pieces
 

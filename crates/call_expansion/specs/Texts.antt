@@ -79,11 +79,14 @@ module _ (layers : Layers) (depth : ℕ) (initial : List Definition) where
   abbrev pub IsFound : List ℕ → ℕ → Found → Type 0
   IsFound text at found = IsFoundIn (layers.read text) at found
 
-  -- this is said of a call around a byte of a text that is read so, in the last piece that begins
-  -- at or before the byte
-  abbrev pub answer_near : Result Forest ReadFault → ℕ → Option Answer
-  answer_near (Err fault) at = None
-  answer_near (Ok f) at = last_answer at (members_in layers depth initial f)
+  -- this is said of a call around a byte of a text, in the last piece that begins at or before the
+  -- byte; nothing where the text cannot be read
+  abbrev pub answer_near_in : Result Forest ReadFault → ℕ → Option Answer
+  answer_near_in (Err fault) at = None
+  answer_near_in (Ok f) at = last_answer at (members_in layers depth initial f)
+
+  abbrev pub answer_near : List ℕ → ℕ → Option Answer
+  answer_near text at = answer_near_in (layers.read text) at
 
   -- it has such a call, where it is read so
   abbrev pub HasTooManyIn : Result Forest ReadFault → Type 0

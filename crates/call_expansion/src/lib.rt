@@ -7,4 +7,5 @@ pub mod around;
 pub mod definitions;
 mod moved;
 pub mod piece_call;
+pub mod reading;
 pub mod text_call;

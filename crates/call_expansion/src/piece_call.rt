@@ -1,5 +1,5 @@
-//! Expands the call at a byte of a text that was read as pieces: in the last one that begins at or
-//! before the byte.
+//! Expands the call at a byte of a text that was read as pieces, or that follows others: in the last
+//! piece that begins at or before the byte.
 ghost use Rattle.std.specs.Prelude.{◌≡◌, ◌≤◌, ◌<◌, ◌++◌, ◌∷◌, [], All, Err, IfOk, IfSome};
 ghost use Rattle.std.specs.Prelude.{IsOkUnless, List, None, OnOk, is_some, map, option_map, true};
 ghost use Rattle.std.specs.List.{list_any};
@@ -11,8 +11,8 @@ ghost use Rattle.expander_reparse.specs.RelativePieces.{IsOwnPiece, piece_at};
 ghost use Rattle.expander_reparse.specs.declared.piece.Piece.{Piece};
 ghost use Rattle.expander_scope.specs.ScopeTable.{AreRead};
 ghost use Rattle.call_expansion.specs.InScope.{HasInScope};
-ghost use Rattle.call_expansion.specs.Texts.{answer_in, bursts, last_answer, member_answer};
-ghost use Rattle.call_expansion.specs.Texts.{text_layers};
+ghost use Rattle.call_expansion.specs.Texts.{NeedsTooMany, answer_in, answer_near, bursts};
+ghost use Rattle.call_expansion.specs.Texts.{last_answer, member_answer, text_layers};
 
 use crate::answer::Called;
 use crate::definitions::{define, scope_behind};
@@ -24,6 +24,7 @@ use expander_reparse::piece::Piece;
 use expander_scope::scope::Scope;
 use expander_sources::prelude::Prelude;
 use mbe::FragmentGrammar;
+use pieced_text::PiecedText;
 use std::alloc::Global;
 use tt::TopSubtree;
 use tt_data::TtFault;
@@ -91,7 +92,7 @@ fn define_all(
 }
 
 /// The last of these pieces that begins at or before a byte, and those before it.
-pub fn last_begun(pieces: &[Piece], at: u32) -> Option<(&[Piece], &Piece)>
+pub fn last_at(pieces: &[Piece], at: u32) -> Option<(&[Piece], &Piece)>
     ensures none { result ≡ None → All (λ (o : Piece). at < o.start) pieces.now }
     ensures some { IfSome result (λ r. (after : List Piece)
         × (pieces.now ≡ r.0.now ++ (r.1.now ∷ after)) × (r.1.now.start ≤ at)
@@ -159,8 +160,36 @@ pub fn call_in_pieces<G: FragmentGrammar>(
         (text_layers (G.answer by.now.grammar.now) by.now.edition by.now.dialect.now)
         by.now.depth (definitions_after [] prelude.now) (map piece_at pieces.now)) ≡ true }
 {
-    match last_begun(pieces, at) {
+    match last_at(pieces, at) {
         Some((before, piece)) => call_behind(alloc, by, prelude, before, piece, at),
+        None => Ok(None),
+    }
+}
+
+/// The call around a byte of a text that follows others: what `call_in_pieces` says of its pieces,
+/// which are read over those that were read last. `None` too if the text cannot be read.
+///
+/// # Errors
+///
+/// `Memory`. `Tokens`, only if what is read of the text has more than `u32::MAX` tokens, which doc
+/// comments alone can bring about, or if a rule that is tried for a call puts out more.
+pub fn call_in_followed<G: FragmentGrammar>(
+    alloc: Global,
+    by: &CallOptions<'_, G>,
+    prelude: &Prelude,
+    text: &mut PiecedText,
+    at: u32,
+) -> Result<Option<Called>, TtFault>
+    ensures answer { IfOk result (λ c. option_map answer_in c ≡ answer_near
+        (text_layers (G.answer by.now.grammar.now) by.now.edition by.now.dialect.now)
+        by.now.depth (definitions_after [] prelude.now) text.old at) }
+    ensures tokens { result ≡ Err fault.Tokens → NeedsTooMany
+        (text_layers (G.answer by.now.grammar.now) by.now.edition by.now.dialect.now)
+        by.now.depth (definitions_after [] prelude.now) text.old }
+    ensures same { text.new ≡ text.old }
+{
+    match text.pieces()? {
+        Some(pieces) => call_in_pieces(alloc, by, prelude, pieces.as_slice(), at),
         None => Ok(None),
     }
 }

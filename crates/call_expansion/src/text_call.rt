@@ -17,16 +17,17 @@ use crate::answer::{Called, Expanded, answer_among};
 use crate::around::{CallPlace, calls_around};
 use crate::definitions::{define, scope_behind};
 use crate::moved::text_top;
+use crate::reading::read_text;
 use bridge::{Read, ReadFault};
 use expander_model::definition::definition_of;
 use expander_model::dialect::Dialect;
-use expander_model::split::{next_piece, set_apart};
-use expander_scope::expand::{Environment, expand_into};
+use expander_model::split::next_piece;
+use expander_scope::environment::Environment;
+use expander_scope::expand::expand_into;
 use expander_scope::outcome::Event;
 use expander_scope::scope::Scope;
 use expander_sources::prelude::Prelude;
 use mbe::FragmentGrammar;
-use rustc_lexer::{FrontmatterAllowed, Token, tokenize};
 use std::alloc::Global;
 use tt::{TopSubtree, TtIter};
 use tt_data::{Edition, TtFault};
@@ -207,13 +208,10 @@ pub fn call_in_text<G: FragmentGrammar>(
         (text_layers (G.answer by.now.grammar.now) by.now.edition by.now.dialect.now)
         by.now.depth (definitions_after [] prelude.now) text.now }
 {
-    bridge::laws::reading_is_a_relation();
-    let tokens: Vec<Token> = tokenize(text, FrontmatterAllowed::No).collect(alloc)?;
-    let mut tree = match bridge::read(alloc, text, tokens.as_slice())? {
+    let tree = match read_text(alloc, text)? {
         Read::Fault(fault) => return Ok(Found::Unread(fault)),
         Read::Tree(tree) => tree,
     };
-    set_apart(alloc, &mut tree)?;
     match call_in_tree(alloc, by, prelude, &tree.iter(), at)? {
         Some(called) => Ok(Found::Call(called)),
         None => Ok(Found::Nothing),

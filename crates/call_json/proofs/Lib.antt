@@ -1,2 +1,3 @@
 pub mod RuleLemmas
+mod WhyLemmas
 pub mod Rows

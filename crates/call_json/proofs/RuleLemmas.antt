@@ -1,18 +1,10 @@
--- Rules that are told one after another, and what is told of a call.
+-- Rules that are told one after another.
 use Rattle.std.proofs.Common.{◌≡◌, ◌∙◌, ℕ, ◌+◌, ◌<◌, ◌≤◌, List, [], ◌∷◌, ◌++◌, length, drop, get_or, map, append_assoc, append-nil, ap, sym}
 use Rattle.std.proofs.lemmas.List.{drop_all, drop_more, map-append}
 use Rattle.serde_json.specs.Data.{Data}
 use Rattle.serde_json.specs.View.{view}
 use Rattle.serde_json.specs.declared.value.Value.{Value}
-use Rattle.mbe.specs.Grammar.{Grammar}
-use Rattle.mbe.specs.Macros.{rules_of}
-use Rattle.mbe_explain.specs.declared.rules.Explanation.{Explanation}
 use Rattle.mbe_explain.specs.declared.rules.RuleStop.{RuleStop}
-use Rattle.call_messages.specs.Knowns.{IsExplained}
-use Rattle.call_messages.specs.declared.known.Known.{Known}
-use Rattle.call_json.specs.Whys.{IsWhy, TellsWhy}
-use Rattle.call_json.specs.declared.why.Told.{Told}
-use Rattle.call_json.specs.declared.why.Told.TheVariants.{Why, Nothing}
 
 -- one more, and those that are left
 pub one_more : (F : RuleStop → Data) (done new : List Value) (stops : List RuleStop) (i : ℕ)
@@ -36,10 +28,3 @@ all_told F done stops i past so_far =
     sym (append-nil (map view done))
     ∙ ap (λ (ss : List RuleStop). map view done ++ map F ss) (sym (drop_all i stops past))
     ∙ so_far
-
--- what is told of a call and a definition
-pub told_why : (gr : Grammar) (text : List ℕ) (known : Known) (e : Explanation) (told : Told)
-    → IsExplained gr (rules_of known.rules).list known.call.argument e
-    → TellsWhy text known e told → IsWhy gr text told
-told_why gr text known e (Why why) is tells = (known, e, is, tells)
-told_why gr text known e (Nothing unfit) is tells = tt

@@ -11,4 +11,4 @@ mod why;
 pub use numbers::push_number;
 pub use places::{place_from, place_in};
 pub use spots::Spots;
-pub use why::{Told, Why, why_unfit};
+pub use why::{Why, why_unfit};

@@ -1,20 +1,22 @@
-//! Why no rule fits the call at a place.
-ghost use Rattle.std.specs.Prelude.{◌≡◌, ◌<◌, ◌^◌, IfOk, length};
+//! Why no rule fits a call.
+ghost use Rattle.std.specs.Prelude.{◌≡◌, ◌<◌, ◌^◌, IfOk, None, length};
 ghost use Rattle.serde_json.specs.View.{view};
+ghost use Rattle.mbe.specs.Macros.{rules_of};
+ghost use Rattle.mbe_explain.specs.Rules.{IsNearest};
 ghost use Rattle.call_json.specs.Rules.{name};
 ghost use Rattle.call_json.specs.Spots.{AreOf};
-ghost use Rattle.call_json.specs.Whys.{IsWhy, TellsWhy};
+ghost use Rattle.call_json.specs.Whys.{IsWhy, IsWhyOf};
 
 use crate::places::place_in;
 use crate::rules::{all_rules, number_of};
 use crate::spots::Spots;
 use bumpalo::Bump;
-use call_messages::{Known, Place, Unfit, explain_known, known_at, nearest_unfit};
+use call_messages::{Known, Unfit, explain_known, nearest_unfit};
 use mbe::FragmentGrammar;
 use mbe_explain::Explanation;
 use serde_json::{Value, json};
 use std::alloc::{AllocError, Global};
-use tt_data::{Edition, Ident, TtFault};
+use tt_data::{Ident, TtFault};
 
 /// Why no rule fits a call, as parts of a JSON value.
 #[derive(Drop)]
@@ -25,15 +27,6 @@ pub struct Why {
     pub nearest: usize,
     /// All rules, in order: how each stops.
     pub rules: Value,
-}
-
-/// What is told of a call.
-#[derive(Drop)]
-pub enum Told {
-    /// Why no rule fits.
-    Why(Why),
-    /// Nothing, and why so.
-    Nothing(Unfit),
 }
 
 // A name, and where it stands.
@@ -49,58 +42,51 @@ fn name(alloc: Global, text: &str, spots: &Spots, it: &Ident) -> Result<Value, A
     })
 }
 
-// What is told of a call whose rules are explained.
-fn told_of(
+// Why no rule fits a call, by how the rules take the argument.
+fn why_of(
     alloc: Global,
     text: &str,
     spots: &Spots,
     known: &Known<'_>,
     explained: &Explanation<'_>,
-) -> Result<Told, AllocError>
+) -> Result<Result<Why, Unfit>, AllocError>
     requires short { length text.now < 2 ^ 32 }
     requires spots { AreOf text.now spots.now }
-    ensures { IfOk result (TellsWhy text.now known.now explained.now) }
+    requires nearest { IsNearest explained.now.rules.items explained.now.nearest }
+    ensures { IfOk result (IsWhyOf text.now known.now explained.now) }
 {
     let nearest = match nearest_unfit(explained) {
         Ok(nearest) => nearest,
-        Err(unfit) => return Ok(Told::Nothing(unfit)),
+        Err(unfit) => return Ok(Err(unfit)),
     };
-    let Some(rule) = explained.rules.get(nearest) else {
-        return Ok(Told::Nothing(Unfit::Unknown));
-    };
-    Ok(Told::Why(Why {
+    let index = explained.rules[nearest].index;
+    Ok(Ok(Why {
         definition: name(alloc, text, spots, &known.definition.name)?,
-        nearest: number_of(rule.index),
+        nearest: number_of(index),
         rules: all_rules(alloc, text, spots, &known.call, &explained.rules)?,
     }))
 }
 
-/// Why no rule of its definition fits the call whose name begins at a place of a text of at most
-/// `u32::MAX` bytes, which has these spots.
-///
-/// The definition is the last one of the call's name before it, in the innermost list around it
-/// that has one.
+/// Why no rule of its definition fits a call of a text of at most `u32::MAX` bytes, which has these
+/// spots. `Err(Fits)` if a rule fits; `Err(Unknown)` if the definition has no rules.
 ///
 /// # Errors
 ///
-/// `Memory`; or `Tokens` if a definition or what a rule gives has too many tokens.
+/// `Memory`; or `Tokens` if what a rule gives has too many tokens.
 pub fn why_unfit<G: FragmentGrammar>(
     alloc: Global,
     grammar: &G,
-    edition: Edition,
-    place: Place<'_>,
+    text: &str,
     spots: &Spots,
-) -> Result<Told, TtFault>
-    requires short { length place.source.text.now < 2 ^ 32 }
-    requires spots { AreOf place.source.text.now spots.now }
-    ensures { IfOk result (IsWhy (G.answer grammar.now)
-        place.entry.source.text.now) }
+    known: &Known<'_>,
+) -> Result<Result<Why, Unfit>, TtFault>
+    requires short { length text.now < 2 ^ 32 }
+    requires spots { AreOf text.now spots.now }
+    requires valid { (rules_of known.now.rules).err ≡ None }
+    ensures { IfOk result (IsWhy (G.answer grammar.now) text.now known.now) }
 {
-    let Some(known) = known_at(alloc, edition, &place.trees.iter(), place.at)? else {
-        return Ok(Told::Nothing(Unfit::Unknown));
-    };
     let arena = Bump::new(alloc);
-    let explained = explain_known(alloc, &arena, grammar, &known)?;
-    let told = told_of(alloc, place.source.text, spots, &known, &explained)?;
-    Ok(told)
+    let explained = explain_known(alloc, &arena, grammar, known)?;
+    let why = why_of(alloc, text, spots, known, &explained)?;
+    Ok(why)
 }

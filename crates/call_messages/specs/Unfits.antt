@@ -1,11 +1,17 @@
--- What is added about a call. (Of this project.)
-use Rattle.std.specs.Prelude.{◌≡◌, ℕ, List, ◌++◌}
+-- Why no rule fits a call, and what is added about it. (Of this project.)
+use Rattle.std.specs.Prelude.{◌≡◌, ℕ, List, ◌++◌, Result, Ok, Err, ok_or, if◌then◌else◌, ⊤}
+use Rattle.std.specs.List.{list_any}
 use Rattle.source_snippet.specs.Messages.{Part, message}
+use Rattle.mbe_explain.specs.declared.rules.Explanation.{Explanation}
 use Rattle.call_messages.specs.declared.unfit.Unfit.{Unfit}
-use Rattle.call_messages.specs.declared.unfit.Unfit.TheVariants.{Fits, Told, Unknown}
+use Rattle.call_messages.specs.declared.unfit.Unfit.TheVariants.{Fits, Unknown}
 
--- the lines of a message are added where something is told, and else nothing
-abbrev pub AddsIfTold : (old new : List ℕ) → Unfit → Type 0
-AddsIfTold old new Told = (parts : List Part) × (new ≡ old ++ message parts)
-AddsIfTold old new Fits = new ≡ old
-AddsIfTold old new Unknown = new ≡ old
+-- the place of the rule that comes furthest, where no rule fits; there is none if there are no rules
+abbrev pub nearest_unfit : Explanation → Result ℕ Unfit
+nearest_unfit e =
+    if list_any (λ s. s.fits) e.rules.items then Err Fits else ok_or e.nearest Unknown
+
+-- the lines of a message are added, or nothing, and why
+abbrev pub AddsIfUnfit : (old new : List ℕ) → Result ⊤ Unfit → Type 0
+AddsIfUnfit old new (Ok _) = (parts : List Part) × (new ≡ old ++ message parts)
+AddsIfUnfit old new (Err unfit) = new ≡ old

@@ -1,6 +1,7 @@
 //! A message about a call that no rule fits.
 ghost use Rattle.std.specs.Prelude.{◌≡◌, ◌<◌, IfOk, IfSome, length, string_bytes};
-ghost use Rattle.call_messages.specs.Unfits.{AddsIfTold};
+ghost use Rattle.std.specs.List.{list_any};
+ghost use Rattle.call_messages.specs.Unfits.{AddsIfUnfit, nearest_unfit};
 
 use crate::known::{explain_known, known_at};
 use crate::marks::{lines_of, ranges_of};
@@ -144,19 +145,19 @@ fn note_section<'a>(
     }))
 }
 
-/// What is told of a call.
+/// Why nothing is said of a call's rules.
 #[derive(Clone, Copy, PartialEq, Eq, Debug)]
 pub enum Unfit {
-    /// Why no rule fits.
-    Told,
-    /// Nothing: a rule fits.
+    /// A rule fits.
     Fits,
-    /// Nothing: no call is there, or no valid definition of its name with rules comes before it.
+    /// No call is there, or no valid definition of its name with rules comes before it.
     Unknown,
 }
 
 // Whether one of the rules fits.
-fn one_fits(rules: &[RuleStop<'_>]) -> bool {
+fn one_fits(rules: &[RuleStop<'_>]) -> bool
+    ensures { result ≡ list_any (λ s. s.fits) rules.now }
+{
     for rule in rules {
         if rule.fits {
             return true;
@@ -165,42 +166,42 @@ fn one_fits(rules: &[RuleStop<'_>]) -> bool {
     false
 }
 
-/// The place in `rules` of the rule that comes furthest, where none fits; or why there is nothing
-/// to tell.
-pub fn nearest_unfit(told: &Explanation<'_>) -> Result<usize, Unfit>
-    ensures { IfOk result (λ k. told.now.nearest ≡ Some k) }
+/// The place in `rules` of the rule that comes furthest, where none fits; or why there is no such
+/// rule: one fits, or there are no rules.
+pub fn nearest_unfit(explained: &Explanation<'_>) -> Result<usize, Unfit>
+    ensures { result ≡ nearest_unfit explained.now }
 {
-    if one_fits(&told.rules) {
+    if one_fits(&explained.rules) {
         return Err(Unfit::Fits);
     }
-    told.nearest.ok_or(Unfit::Unknown)
+    explained.nearest.ok_or(Unfit::Unknown)
 }
 
-// Adds what is told of a call by its definition.
-fn push_told(
+// Adds a message about a call by how the rules of its definition take the argument.
+fn push_explained(
     alloc: Global,
     out: &mut String,
     source: Source<'_>,
     call: &Call<'_>,
     definition: &Definition<'_>,
-    told: &Explanation<'_>,
-) -> Result<Unfit, AllocError>
-    ensures { IfOk result (AddsIfTold (string_bytes out.old) (string_bytes out.new)) }
+    explained: &Explanation<'_>,
+) -> Result<Result<(), Unfit>, AllocError>
+    ensures { IfOk result (AddsIfUnfit (string_bytes out.old) (string_bytes out.new)) }
 {
-    let nearest = match nearest_unfit(told) {
+    let nearest = match nearest_unfit(explained) {
         Ok(nearest) => nearest,
-        Err(unfit) => return Ok(unfit),
+        Err(unfit) => return Ok(Err(unfit)),
     };
-    let Some(stop) = told.rules.get(nearest) else {
-        return Ok(Unfit::Unknown);
+    let Some(stop) = explained.rules.get(nearest) else {
+        return Ok(Err(Unfit::Unknown));
     };
     let mut sections = Vec::new(alloc);
     sections.push(error_section(alloc, source, call, stop)?)?;
-    if let Some(note) = note_section(alloc, source, definition, told, nearest)? {
+    if let Some(note) = note_section(alloc, source, definition, explained, nearest)? {
         sections.push(note)?;
     }
     push_message(alloc, out, &sections)?;
-    Ok(Unfit::Told)
+    Ok(Ok(()))
 }
 
 /// A place in a text: the text, its trees with spans in it, and a byte.
@@ -213,7 +214,7 @@ pub struct Place<'a> {
 
 /// Adds a message about the call whose name begins at a place, if no rule fits it: where the
 /// nearest rule stops and what it wants there, where in the definition that stands, and where other
-/// rules stop. Nothing is added unless that is told.
+/// rules stop. Else nothing is added, and the answer says why.
 ///
 /// The definition is the last one of the call's name before it, in the innermost list around it
 /// that has one.
@@ -227,20 +228,20 @@ pub fn push_unfit<G: FragmentGrammar>(
     grammar: &G,
     edition: Edition,
     place: Place<'_>,
-) -> Result<Unfit, TtFault>
-    ensures { IfOk result (AddsIfTold (string_bytes out.old) (string_bytes out.new)) }
+) -> Result<Result<(), Unfit>, TtFault>
+    ensures { IfOk result (AddsIfUnfit (string_bytes out.old) (string_bytes out.new)) }
 {
     let Some(known) = known_at(alloc, edition, &place.trees.iter(), place.at)? else {
-        return Ok(Unfit::Unknown);
+        return Ok(Err(Unfit::Unknown));
     };
     let arena = Bump::new(alloc);
-    let told = explain_known(alloc, &arena, grammar, &known)?;
-    Ok(push_told(
+    let explained = explain_known(alloc, &arena, grammar, &known)?;
+    Ok(push_explained(
         alloc,
         out,
         place.source,
         &known.call,
         &known.definition,
-        &told,
+        &explained,
     )?)
 }

@@ -29,7 +29,7 @@ use Rattle.expander_scope.specs.ListsLeft.{IsAhead, IsOutAhead, Left, Place, all
 use Rattle.expander_scope.specs.Outcomes.{find_of, parts_of}
 use Rattle.expander_scope.specs.Sinks.{TakesMore}
 use Rattle.expander_scope.specs.Turns.{begun_behind, broken_at, is_bare, kept_left, local_at, lookups_of, resolved}
-use Rattle.expander_scope.specs.declared.expand.Expanding.{Expanding}
+use Rattle.expander_scope.specs.declared.outcome.Expanding.{Expanding}
 use Rattle.expander_scope.proofs.ListLemmas.{IsPlain, called_in, here_in, left_call, passed_in, scoped_is, takes_in, then_assoc}
 use Rattle.expander_scope.proofs.OutcomeLemmas.{or_false, or_first, or_later}
 use Rattle.expander_scope.proofs.SinkLemmas.{takes_both}

@@ -46,7 +46,7 @@ use Rattle.expander_scope.specs.ListsLeft.{IsAhead, IsOutAhead, Left, Open, Plac
 use Rattle.expander_scope.specs.Leaving.{Leaves}
 use Rattle.expander_scope.specs.LocalTables.{AreReadIn, locals_of}
 use Rattle.expander_scope.specs.Turns.{AreNested, BeginsWithGroup, Goes, GoesBehind, IsAfter, IsAt, IsNoCall, IsPassable, IsPlainAhead, begun_behind, is_alone_at, lookups_of, resolved, around_of, level_of, left_ahead, argument_left, kept_left, steps_in, turns_left}
-use Rattle.expander_scope.specs.declared.expand.Search.{Search}
+use Rattle.expander_scope.specs.declared.expand.search.Search.{Search}
 use Rattle.expander_scope.specs.declared.list_walk.Level.{Level}
 use Rattle.expander_scope.specs.declared.list_walk.ListWalk.{ListWalk}
 use Rattle.expander_scope.specs.declared.locals.Locals.{Locals}

@@ -12,9 +12,9 @@ use Rattle.expander_scope.specs.Outcomes.{find_of}
 use Rattle.expander_scope.specs.Spending.{BurstsFirst, BurstsIn, Searched, Spends, Stops, TakesBack, left_behind, passing, with_left}
 use Rattle.expander_scope.specs.Expanding.{Adds}
 use Rattle.expander_scope.specs.Sinks.{TakesMore}
-use Rattle.expander_scope.specs.declared.expand.Expanding.{Expanding}
+use Rattle.expander_scope.specs.declared.outcome.Expanding.{Expanding}
 use Rattle.expander_scope.proofs.SpendingLemmas.{behind_notes, bursts_more, none_passed, passed_here, passing_more, spends_more}
-use Rattle.expander_scope.specs.declared.expand.Search.{Search}
+use Rattle.expander_scope.specs.declared.expand.search.Search.{Search}
 
 pub take-front : {X : Type 0} (xs ys : List X) → take (length xs) (xs ++ ys) ≡ xs
 take-front [] ys = refl

@@ -4,7 +4,7 @@ use Rattle.std.specs.Prelude.{◌≡◌, ℕ, zero, suc, ◌-◌, Bool, false, �
 use Rattle.tt_data.specs.Forest.{Forest, size}
 use Rattle.tt_data.specs.Walk.{walk}
 use Rattle.tt.specs.Tops.{Top}
-use Rattle.expander_scope.specs.declared.expand.Expanding.{Expanding}
+use Rattle.expander_scope.specs.declared.outcome.Expanding.{Expanding}
 use Rattle.expander_model.specs.declared.fault.FaultKind.{FaultKind}
 use Rattle.expander_model.specs.declared.fault.FaultKind.TheVariants.{CannotExpand, BrokenDefinition, RecursionLimit}
 use Rattle.expander_model.specs.Changes.{find_with}

@@ -13,7 +13,7 @@ use Rattle.expander_scope.specs.Expanding.{Adds}
 use Rattle.expander_scope.specs.LocalTables.{locals_of}
 use Rattle.expander_scope.specs.Outcomes.{find_of}
 use Rattle.expander_scope.specs.Sinks.{TakesMore}
-use Rattle.expander_scope.specs.declared.expand.Search.{Search}
+use Rattle.expander_scope.specs.declared.expand.search.Search.{Search}
 
 -- a limit is passed by so many calls or tokens more
 abbrev pub is_passed : Limits → (calls tokens : ℕ) → Bool

@@ -34,7 +34,7 @@ use Rattle.expander_scope.specs.ListsLeft.{IsAhead, IsOutAhead, Left, Open, Plac
 use Rattle.expander_scope.specs.LocalTables.{AreReadIn, locals_of}
 use Rattle.expander_scope.specs.ScopeTable.{scope_in}
 use Rattle.expander_scope.specs.Spending.{Spends}
-use Rattle.expander_scope.specs.declared.expand.Search.{Search}
+use Rattle.expander_scope.specs.declared.expand.search.Search.{Search}
 use Rattle.expander_scope.specs.declared.list_walk.Level.{Level}
 use Rattle.expander_scope.specs.declared.list_walk.ListWalk.{ListWalk}
 use Rattle.expander_scope.specs.declared.locals.Locals.{Locals}

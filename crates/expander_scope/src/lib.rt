@@ -3,6 +3,7 @@
 #![tactic(auto)]
 
 pub mod definition_ids;
+pub mod environment;
 pub mod event_sink;
 pub mod expand;
 pub mod interner;

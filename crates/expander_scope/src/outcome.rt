@@ -75,3 +75,14 @@ pub fn lent(kind: &EventKind) -> TokenEvent<'_>
         EventKind::Closes(kind, span) => TokenEvent::Closes(*kind, *span),
     }
 }
+
+/// An expansion, so far or in all: its output, faults and look-ups, each in order.
+#[derive(Drop)]
+pub struct Expanding<S> {
+    /// What its events were handed to.
+    pub output: S,
+    /// Each fault, with the span of the name at which it is reported.
+    pub faults: Vec<(FaultKind, Span)>,
+    /// The look-ups, in order.
+    pub finds: Vec<NameLookup>,
+}

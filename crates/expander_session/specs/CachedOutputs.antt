@@ -7,7 +7,7 @@ use Rattle.tt_data.specs.declared.span.Span.{Span}
 use Rattle.expander_model.specs.Changes.{placed_with}
 use Rattle.expander_model.specs.Expansion.{PlacedStep}
 use Rattle.expander_scope.specs.Outcomes.{Parts, find_of, steps_for}
-use Rattle.expander_scope.specs.declared.expand.Expanding.{Expanding}
+use Rattle.expander_scope.specs.declared.outcome.Expanding.{Expanding}
 use Rattle.expander_session.specs.Emitting.{PutsOut, word_places}
 use Rattle.expander_session.specs.AbsoluteSpans.{resolved_steps}
 use Rattle.expander_session.specs.Memos.{finds_of, tree_of}

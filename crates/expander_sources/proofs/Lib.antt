@@ -1,7 +1,7 @@
 -- lemmas by subject; the worked examples
 mod HomeLemmas
-mod SpanLemmas
-mod OrderLemmas
+pub mod SpanLemmas
+pub mod OrderLemmas
 mod RootingLemmas
 mod PartLemmas
 mod PickLemmas

@@ -109,13 +109,13 @@ piece_is f = go (definition_of f) refl
     go None e = rw e refl
     go (Some d) e = rw e (definition_piece f d e)
 
-same_attempt : (o : Option code_attempt.Attempt) → option_map attempt_in o ≡ option_map (attempt_with numbered_piece) (option_map attempt_numbered o)
-same_attempt None = refl
-same_attempt (Some a) = λ i. Some (record { definition = sym (piece_is (rc_value a.known).tree.inner) i; call = a.call.inner; tokens = a.tokens; given = given_in a.given })
+attempt_by_trees : (o : Option code_attempt.Attempt) → option_map attempt_in o ≡ option_map (attempt_with numbered_piece) (option_map attempt_numbered o)
+attempt_by_trees None = refl
+attempt_by_trees (Some a) = λ i. Some (record { definition = sym (piece_is (rc_value a.known).tree.inner) i; call = a.call.inner; tokens = a.tokens; given = given_in a.given })
 
-same_steps : (t : List code.Step) → map step_in t ≡ map (step_with numbered_piece) (map step_numbered t)
-same_steps [] = refl
-same_steps (s ∷ t) = λ i. record { level = s.level; name = s.name; key = s.key; attempt = same_attempt s.attempt i } ∷ same_steps t i
+steps_by_trees : (t : List code.Step) → map step_in t ≡ map (step_with numbered_piece) (map step_numbered t)
+steps_by_trees [] = refl
+steps_by_trees (s ∷ t) = λ i. record { level = s.level; name = s.name; key = s.key; attempt = attempt_by_trees s.attempt i } ∷ steps_by_trees t i
 
 -- what is listed of parts does not look at definitions
 empty_same : {X Y : Type 0} (f : X → Y) (xs : List X) → is_empty (map f xs) ≡ is_empty xs
@@ -183,7 +183,7 @@ module _ (grammar : Grammar) (edition : Edition) (dialect : Dialect) (depth : �
         let part : part_of dialect.scope old.room (steps_under grammar s depth 0 at piece) ≡ renamed_part unnumbered dialect.scope p =
         ap (λ r. part_of dialect.scope r (steps_under grammar s depth 0 at piece)) room ∙ ap (part_within dialect.scope left None) steps ∙ part_same unnumbered dialect.scope left None plain in
         let items : map step_in t.steps.items ≡ map (step_with piece_of) p.steps =
-        same_steps t.steps.items ∙ ap (map (step_with numbered_piece)) (adds.steps_are ∙ ap (λ xs. map step_numbered xs ++ (part_of dialect.scope old.room (steps_under grammar s depth 0 at piece)).steps) none
+        steps_by_trees t.steps.items ∙ ap (map (step_with numbered_piece)) (adds.steps_are ∙ ap (λ xs. map step_numbered xs ++ (part_of dialect.scope old.room (steps_under grammar s depth 0 at piece)).steps) none
         ∙ ap (λ (q : Part Numbered). q.steps) part) ∙ steps_back p.steps in
         let end : t.room ≡ p.room = adds.room_is ∙ ap (λ (q : Part Numbered). q.room) part in
         (λ i. record { steps = items i; room = end i })

@@ -24,13 +24,13 @@ use crate::tracing::Tracing;
 use bridge::{Read, ReadFault};
 use call_expansion::around::calls_around;
 use call_expansion::definitions::{define, scope_behind};
+use call_expansion::reading::read_text;
 use call_expansion::text_call::CallOptions;
 use expander_model::definition::definition_of;
-use expander_model::split::{next_piece, set_apart};
+use expander_model::split::next_piece;
 use expander_scope::scope::Scope;
 use expander_sources::prelude::Prelude;
 use mbe::FragmentGrammar;
-use rustc_lexer::{FrontmatterAllowed, Token, tokenize};
 use std::alloc::{AllocError, Global};
 use tt::TtIter;
 use tt_data::TtFault;
@@ -235,13 +235,10 @@ pub fn trace_in_text<G: FragmentGrammar>(
         limits (definitions_after [] prelude.now) (text_reading text.now)) }
     ensures tokens { result ≡ Err fault.Tokens → HasTooMany (text_steps text.now) }
 {
-    bridge::laws::reading_is_a_relation();
-    let tokens: Vec<Token> = tokenize(text, FrontmatterAllowed::No).collect(alloc)?;
-    let mut tree = match bridge::read(alloc, text, tokens.as_slice())? {
+    let tree = match read_text(alloc, text)? {
         Read::Fault(fault) => return Ok(Found::Unread(fault)),
         Read::Tree(tree) => tree,
     };
-    set_apart(alloc, &mut tree)?;
     let mut scope = scope_behind(alloc, by.edition, by.dialect, prelude)?;
     let traces = trace_pieces(alloc, by, &mut scope, &tree.iter(), at, limits)?;
     Ok(Found::Traces(traces))

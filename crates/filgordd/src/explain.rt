@@ -69,6 +69,34 @@ fn is_asked(asked: Asked, range: TextRange) -> bool {
     }
 }
 
+/// The faults at a place of a text; without a place all.
+pub(crate) fn asked_faults(
+    alloc: Global,
+    text: &str,
+    faults: &[Fault],
+    place: Option<Place>,
+) -> Result<Vec<Fault>, AllocError> {
+    let asked = asked_of(text, place);
+    let mut list = Vec::new(alloc);
+    for fault in faults {
+        if is_asked(asked, fault.range) {
+            list.push(*fault)?;
+        }
+    }
+    Ok(list)
+}
+
+/// The trees of a text, or why it cannot be read.
+pub(crate) fn tree_of(alloc: Global, text: &str) -> Result<Result<TopSubtree, ReadFault>, TtFault>
+    requires { length text.now < 2 ^ 32 }
+{
+    let lexed = LexedText::new(alloc, text)?;
+    match read(alloc, lexed.text(), lexed.tokens())? {
+        Read::Tree(tree) => Ok(Ok(tree)),
+        Read::Fault(fault) => Ok(Err(fault)),
+    }
+}
+
 // What is explained of a text, and by which language.
 #[derive(Clone, Copy, Drop)]
 struct Question<'a> {
@@ -80,8 +108,8 @@ struct Question<'a> {
 }
 
 impl Question<'_> {
-    // Adds what is told of a call that no rule fits, if it can be told.
-    fn push_call(&self, out: &mut String, at: u32) -> Result<Unfit, TtFault> {
+    // Adds a message about a call that no rule fits, or says why not.
+    fn push_call(&self, out: &mut String, at: u32) -> Result<Result<(), Unfit>, TtFault> {
         let place = TextPlace {
             source: self.source,
             trees: self.tree.token_trees(),
@@ -94,10 +122,10 @@ impl Question<'_> {
     fn push_fault(&self, out: &mut String, fault: &Fault) -> Result<(), TtFault> {
         let mut unfit = Unfit::Unknown;
         if fault.kind == FaultKind::CannotExpand {
-            unfit = self.push_call(out, fault.range.start)?;
-        }
-        if unfit == Unfit::Told {
-            return Ok(());
+            match self.push_call(out, fault.range.start)? {
+                Ok(()) => return Ok(()),
+                Err(why) => unfit = why,
+            }
         }
         let words = fault_words(fault.kind);
         let title = format!(in self.alloc; "error: {words}")?;
@@ -113,29 +141,19 @@ impl Question<'_> {
         Ok(())
     }
 
-    // Adds a message about each fault at a place, with an empty line between. Only the first ones
-    // are explained. The number of faults there.
-    fn push_faults(
-        &self,
-        out: &mut String,
-        faults: &[Fault],
-        place: Option<Place>,
-    ) -> Result<usize, TtFault> {
-        let asked = asked_of(self.source.text, place);
-        let mut count = 0usize;
-        for fault in faults {
-            if !is_asked(asked, fault.range) {
-                continue;
+    // Adds a message about each of these faults, with an empty line between. Only the first ones
+    // are explained.
+    fn push_faults(&self, out: &mut String, faults: &[Fault]) -> Result<(), TtFault> {
+        for (i, fault) in faults.iter().enumerate() {
+            if i >= MOST {
+                break;
             }
-            if count < MOST {
-                if count > 0 {
-                    out.push('\n')?;
-                }
-                self.push_fault(out, fault)?;
+            if i > 0 {
+                out.push('\n')?;
             }
-            count = count.saturating_add(1);
+            self.push_fault(out, fault)?;
         }
-        Ok(count)
+        Ok(())
     }
 }
 
@@ -156,37 +174,32 @@ fn read_fault_message(
     Ok(out)
 }
 
-// The messages about the faults of an expansion at a place, and the number of these faults.
+// The messages about faults of a text that can be read.
 fn messages(
     alloc: Global,
     language: (AnyGrammar, Edition),
     source: Source<'_>,
     faults: &[Fault],
-    place: Option<Place>,
-) -> Result<(String, usize), TtFault>
+) -> Result<String, TtFault>
     requires { length source.text.now < 2 ^ 32 }
 {
     let mut out = String::new(alloc);
-    let held = LexedText::new(alloc, source.text)?;
     let (grammar, edition) = language;
-    let count = match read(alloc, held.text(), held.tokens())? {
-        Read::Tree(tree) => {
-            let question = Question {
-                alloc,
-                grammar,
-                edition,
-                source,
-                tree: &tree,
-            };
-            question.push_faults(&mut out, faults, place)?
-        }
-        Read::Fault(_fault) => 0,
-    };
-    let more = count.saturating_sub(MOST);
+    if let Ok(tree) = tree_of(alloc, source.text)? {
+        let question = Question {
+            alloc,
+            grammar,
+            edition,
+            source,
+            tree: &tree,
+        };
+        question.push_faults(&mut out, faults)?;
+    }
+    let more = faults.len().saturating_sub(MOST);
     if more > 0 {
         writeln!(out, "\n{more} more faults")?;
     }
-    Ok((out, count))
+    Ok(out)
 }
 
 // Prints messages. The status is 0 if there is none, else 1.
@@ -221,8 +234,9 @@ pub(crate) fn explain(
             printed(rt, out.as_str())
         }
         Ok(Reply::Read(expansion)) => {
-            match messages(rt.alloc(), language, source, expansion.faults(), place) {
-                Ok((out, _count)) => printed(rt, out.as_str()),
+            let faults = asked_faults(rt.alloc(), text, expansion.faults(), place)?;
+            match messages(rt.alloc(), language, source, &faults) {
+                Ok(out) => printed(rt, out.as_str()),
                 Err(TtFault::Tokens) => stopped(rt, "too many tokens"),
                 Err(_) => stopped(rt, "out of memory"),
             }

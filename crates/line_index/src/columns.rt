@@ -1,6 +1,6 @@
 //! How many columns bytes are, and how many bytes come before a column.
-ghost use Rattle.std.specs.Prelude.{◌≡◌, ◌≤◌, ◌+◌, ◌<◌, ◌^◌, IsCharBoundary, drop, length, slice_range};
-ghost use Rattle.std.specs.Prelude.{sum_by};
+ghost use Rattle.std.specs.Prelude.{◌≡◌, ◌≤◌, ◌+◌, ◌<◌, ◌^◌, IsCharBoundary, drop, length};
+ghost use Rattle.std.specs.Prelude.{slice_range, sum_by};
 ghost use Rattle.line_index.specs.Lines.{column_offset, units};
 
 // The UTF-16 code units of the character that begins with this byte; none of a byte within one.

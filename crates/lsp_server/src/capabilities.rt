@@ -13,7 +13,8 @@ pub(crate) fn capabilities(alloc: Global) -> Result<Value, AllocError> {
             "textDocumentSync": {"openClose": true, "change": 2},
             "hoverProvider": true,
             "definitionProvider": true,
-            "documentSymbolProvider": true
+            "documentSymbolProvider": true,
+            "codeActionProvider": {"codeActionKinds": ["refactor.inline"]}
         }
     })
 }

@@ -13,6 +13,7 @@ pub enum Method {
     Definition,
     DocumentSymbol,
     ExpandMacro,
+    CodeAction,
     Shutdown,
     Exit,
 }
@@ -30,6 +31,7 @@ pub(crate) fn method_named(name: &str) -> Option<Method>
         "textDocument/definition" => Some(Method::Definition),
         "textDocument/documentSymbol" => Some(Method::DocumentSymbol),
         "rust-analyzer/expandMacro" => Some(Method::ExpandMacro),
+        "textDocument/codeAction" => Some(Method::CodeAction),
         "shutdown" => Some(Method::Shutdown),
         "exit" => Some(Method::Exit),
         _ => None,

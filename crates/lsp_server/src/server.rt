@@ -81,8 +81,13 @@ fn note_told<'a>(
 // form, or it asks about none.
 fn question_of(method: Method, params: &Value) -> Option<(Question, &str)> {
     let uri = uri_of(params)?;
-    if method == Method::DocumentSymbol {
-        return Some((Question::Symbols, uri));
+    match method {
+        Method::DocumentSymbol => return Some((Question::Symbols, uri)),
+        Method::CodeAction => {
+            let place = place_at("start", params.get("range")?)?;
+            return Some((Question::Actions(place), uri));
+        }
+        _ => {}
     }
     let place = place_at("position", params)?;
     match method {

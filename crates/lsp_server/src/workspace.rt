@@ -21,6 +21,8 @@ pub enum Question {
     Symbols,
     /// What the call at a place expands to.
     Expansion(Position),
+    /// What may be done at a place.
+    Actions(Position),
 }
 
 /// What keeps the client's texts and answers about them.

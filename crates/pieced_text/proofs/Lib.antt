@@ -1,2 +1,3 @@
 mod DifferenceLemmas
 mod ChangeLemmas
+mod PieceLemmas

@@ -77,6 +77,9 @@ impl PiecedText {
         ensures many { result ≡ Err TtFault.Tokens → HasTooMany (text_steps self.old) }
         ensures same { self.new ≡ self.old }
     {
+        bridge::laws::reading_is_a_relation();
+        bridge::laws::tokens_follow_one_another();
+        bridge::laws::tokens_are_written();
         let (text, tokens) = (self.text.text(), self.text.tokens());
         match read_pieces(self.alloc, text, tokens, &self.cached)? {
             Parsed::Fault(_fault) => Ok(None),

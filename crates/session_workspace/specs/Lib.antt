@@ -5,6 +5,8 @@ pub mod Diagnostics
 pub mod OpenTexts
 pub mod Symbols
 pub mod Serving
+pub mod Layouts
+pub mod Actions
 pub mod Questions
 -- what the functions inside the crate promise each other
 pub mod Losses

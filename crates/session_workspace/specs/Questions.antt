@@ -1,22 +1,21 @@
 -- What a question about an open text is answered. (LSP 3.17, "Hover Request" and "Document Symbols
 -- Request"; "Expand Macro" of rust-analyzer.)
-use Rattle.std.specs.Prelude.{◌≡◌, ◌⊎◌, ◌<◌, ◌++◌, ◌^◌, ℕ, List, [], ◌∷◌, codes, Contains, length, min, string_bytes, true, Option, Some, None, ⊤}
+use Rattle.std.specs.Prelude.{◌≡◌, ◌⊎◌, ◌<◌, ◌++◌, ◌^◌, ℕ, List, [], ◌∷◌, codes, Contains, length, min, string_bytes, true, Option, Some, None, option_map, ⊤}
 use Rattle.serde_json.specs.Data.{Data, null, object, string, member, no_members}
 use Rattle.any_grammar.specs.Answer.{answer}
 use Rattle.any_grammar.specs.declared.chosen.AnyGrammar.{AnyGrammar}
 use Rattle.bridge.specs.declared.printing.printer.Printed.{Printed}
-use Rattle.call_expansion.specs.Texts.{IsFound, NeedsTooMany, text_layers}
+use Rattle.call_expansion.specs.Texts.{NeedsTooMany, answer_in, answer_near, text_layers}
 use Rattle.call_expansion.specs.declared.answer.Called.{Called}
-use Rattle.call_expansion.specs.declared.text_call.Found.{Found}
-use Rattle.call_expansion.specs.declared.text_call.Found.TheVariants.{Call}
-use Rattle.code_layout.specs.Words.{words_of}
 use Rattle.expander_model.specs.declared.fault.FaultKind.{FaultKind}
 use Rattle.expander_run.specs.Lines.{fault_words}
 use Rattle.expander_session.specs.State.{State, definitions_of}
 use Rattle.line_index.specs.Lines.{offset_of}
 use Rattle.line_index.specs.declared.positions.Position.{Position}
 use Rattle.lsp_server.specs.declared.workspace.Question.{Question}
-use Rattle.lsp_server.specs.declared.workspace.Question.TheVariants.{Hover, Definition, Symbols, Expansion}
+use Rattle.lsp_server.specs.declared.workspace.Question.TheVariants.{Hover, Definition, Symbols, Expansion, Actions}
+use Rattle.session_workspace.specs.Actions.{OffersActions}
+use Rattle.session_workspace.specs.Layouts.{IsLaidOut}
 use Rattle.session_workspace.specs.OpenTexts.{HaveNone, is_named}
 use Rattle.session_workspace.specs.Ranges.{range_data}
 use Rattle.session_workspace.specs.Symbols.{ListsSymbols}
@@ -28,17 +27,21 @@ use Rattle.session_workspace.specs.declared.open_text.OpenText.{OpenText}
 abbrev pub byte_at : List ℕ → Position → ℕ
 byte_at text p = min (length text) (offset_of text p.line p.column)
 
--- what is found at a position of a session's text, by its options and after its prelude: what the
--- text's meaning says; nothing where the text, or what a rule puts out, has too many tokens
-abbrev pub FindsAt : State AnyGrammar → Position → Option Found → Type 0
-FindsAt s place (Some found) = IsFound (text_layers (answer s.grammar) s.edition s.dialect) s.depth
-    (definitions_of s.prelude) s.text (byte_at s.text place) found
-FindsAt s place None = NeedsTooMany (text_layers (answer s.grammar) s.edition s.dialect) s.depth
+-- the text's meaning says this of the call at a position of a session's text, by its options and
+-- after its prelude: in the last piece that begins at or before the byte
+abbrev pub Says : State AnyGrammar → Position → Option Called → Type 0
+Says s place called = option_map answer_in called
+    ≡ answer_near (text_layers (answer s.grammar) s.edition s.dialect) s.depth
+    (definitions_of s.prelude) s.text (byte_at s.text place)
+
+-- a session's text, or what a rule puts out, has too many tokens
+abbrev pub NeedsTooManyIn : State AnyGrammar → Type 0
+NeedsTooManyIn s = NeedsTooMany (text_layers (answer s.grammar) s.edition s.dialect) s.depth
     (definitions_of s.prelude) s.text
 
--- a text has the words of a printed one
-abbrev pub IsLaidOut : (printed laid : List ℕ) → Type 0
-IsLaidOut printed laid = words_of laid ≡ words_of printed
+-- this is said at a position: what the meaning says, or nothing for too many tokens
+abbrev pub IsSaidAt : State AnyGrammar → Position → Option Called → Type 0
+IsSaidAt s place called = Says s place called ⊎ ((called ≡ None) × NeedsTooManyIn s)
 
 -- the name of a macro, and what came of a call of it
 abbrev pub expansion_data : (name laid : List ℕ) → Data
@@ -51,9 +54,9 @@ ShowsTokens (Some p) told = (name laid : List ℕ) × IsLaidOut (string_bytes p.
     × (told ≡ expansion_data name laid)
 ShowsTokens None told = told ≡ null
 
-abbrev pub ShowsExpansion : Option Found → Data → Type 0
-ShowsExpansion (Some (Call c)) told = ShowsTokens c.gives told
-ShowsExpansion _ told = told ≡ null
+abbrev pub ShowsExpansion : Option Called → Data → Type 0
+ShowsExpansion (Some c) told = ShowsTokens c.gives told
+ShowsExpansion None told = told ≡ null
 
 -- a text in a block of code, as Markdown has it
 abbrev pub code_block : List ℕ → List ℕ
@@ -76,23 +79,25 @@ hover_data text shown c =
     (member (codes "value") (string shown) no_members)))
     (member (codes "range") (range_data text c.place.range) no_members))
 
-abbrev pub ShowsHover : List ℕ → Option Found → Data → Type 0
-ShowsHover text (Some (Call c)) told =
+abbrev pub ShowsHover : List ℕ → Option Called → Data → Type 0
+ShowsHover text (Some c) told =
     (shown : List ℕ) × IsHoverText c.gives c.faults.items shown × (told ≡ hover_data text shown c)
-ShowsHover text _ told = told ≡ null
+ShowsHover text None told = told ≡ null
 
 -- ---- all questions
 
--- what is shown of what is found at a position
-abbrev pub ShowsFound : (Option Found → Data → Type 0) → State AnyGrammar → Position → Data → Type 0
-ShowsFound Shows s place told = (found : Option Found) × FindsAt s place found × Shows found told
+-- what is shown of the call at a position
+abbrev pub ShowsCall : (Option Called → Data → Type 0) → State AnyGrammar → Position → Data → Type 0
+ShowsCall Shows s place told =
+    (called : Option Called) × IsSaidAt s place called × Shows called told
 
--- an answer to a question about a text; that a call's definition is found is not said
-abbrev pub Answers : Question → State AnyGrammar → Data → Type 0
-Answers (Hover place) s told = ShowsFound (ShowsHover s.text) s place told
-Answers (Expansion place) s told = ShowsFound ShowsExpansion s place told
-Answers Symbols s told = ListsSymbols s.text told
-Answers (Definition place) s told = ⊤
+-- an answer to a question about a text of this name; that a call's definition is found is not said
+abbrev pub Answers : Question → (uri : List ℕ) → State AnyGrammar → Data → Type 0
+Answers (Hover place) uri s told = ShowsCall (ShowsHover s.text) s place told
+Answers (Expansion place) uri s told = ShowsCall ShowsExpansion s place told
+Answers (Actions place) uri s told = ShowsCall (OffersActions uri s.text) s place told
+Answers Symbols uri s told = ListsSymbols s.text told
+Answers (Definition place) uri s told = ⊤
 
 -- an answer about the open text of this name, or none where none has it. A session's text has less
 -- than 2^32 bytes
@@ -100,4 +105,4 @@ abbrev pub IsAnswered : Question → List ℕ → List OpenText → Option Data 
 IsAnswered question uri texts None = HaveNone uri texts
 IsAnswered question uri texts (Some told) = (t : OpenText) × Contains texts t
     × (is_named uri t ≡ true)
-    × (length t.session.text < 2 ^ 32 → Answers question t.session told)
+    × (length t.session.text < 2 ^ 32 → Answers question uri t.session told)

@@ -1,8 +1,10 @@
 //! What comes of the call at a place of a text.
-ghost use Rattle.std.specs.Prelude.{◌≡◌, ◌<◌, ◌^◌, IfOk, List, length, string_bytes, ℕ};
+ghost use Rattle.std.specs.Prelude.{◌≡◌, ◌<◌, ◌^◌, Err, IfOk, List, length, string_bytes, ℕ};
 ghost use Rattle.serde_json.specs.View.{view};
-ghost use Rattle.session_workspace.specs.Questions.{FindsAt, IsHoverText, IsLaidOut};
-ghost use Rattle.session_workspace.specs.Questions.{ShowsExpansion, ShowsFound, ShowsHover};
+ghost use Rattle.tt_data.specs.fault.TtFault.TheVariants as fault;
+ghost use Rattle.session_workspace.specs.Layouts.{IsLaidOut};
+ghost use Rattle.session_workspace.specs.Questions.{IsHoverText, IsSaidAt, NeedsTooManyIn, Says};
+ghost use Rattle.session_workspace.specs.Questions.{ShowsCall, ShowsExpansion, ShowsHover};
 ghost use Rattle.session_workspace.specs.Questions.{ShowsTokens, code_block, expansion_data};
 ghost use Rattle.session_workspace.specs.Questions.{hover_data};
 
@@ -10,26 +12,45 @@ use crate::ranges::{START, range_value};
 use any_grammar::AnyGrammar;
 use bridge::Printed;
 use call_expansion::answer::Called;
-use call_expansion::text_call::{CallOptions, Found, call_in_text};
+use call_expansion::piece_call::call_in_followed;
+use call_expansion::text_call::CallOptions;
 use code_layout::layout_text;
 use expander_model::fault::FaultKind;
 use expander_run::lines::fault_words;
 use expander_session::session::Session;
 use line_index::{Position, offset_of};
+use pieced_text::PiecedText;
 use serde_json::{Value, json};
 use std::alloc::{AllocError, Global};
 use tt_data::{TextRange, TtFault};
 
 const UNKNOWN: &str = "no definition of this macro is known here, or no rule of it fits";
 
-// What is found at a place of a session's text. `None` if that takes too many tokens.
-fn found_at(
+// The text that was asked about last becomes this one, or there is a new one.
+fn followed(alloc: Global, asked: Option<PiecedText>, text: &str) -> Result<PiecedText, AllocError>
+    requires { length text.now < 2 ^ 32 }
+    ensures { IfOk result (λ t. t ≡ text.now) }
+{
+    match asked {
+        Some(mut pieced) => {
+            pieced.follow(text)?;
+            Ok(pieced)
+        }
+        None => PiecedText::new(alloc, text),
+    }
+}
+
+// What is said of the call at a place of a session's text. `asked` is the text that was asked about
+// last: it becomes this text. If there is no memory for that, it is none.
+fn said_at(
     alloc: Global,
     session: &Session<AnyGrammar>,
     place: Position,
-) -> Result<Option<Found>, AllocError>
+    asked: &mut Option<PiecedText>,
+) -> Result<Option<Called>, TtFault>
     requires { length session.now.text < 2 ^ 32 }
-    ensures { IfOk result (FindsAt session.now place) }
+    ensures says { IfOk result (Says session.now place) }
+    ensures tokens { result ≡ Err fault.Tokens → NeedsTooManyIn session.now }
 {
     let text = session.text();
     let at = text.len().min(offset_of(text, place)) as u32;
@@ -39,8 +60,25 @@ fn found_at(
         dialect: session.dialect(),
         depth: session.depth(),
     };
-    match call_in_text(alloc, text, &by, session.prelude(), at) {
-        Ok(found) => Ok(Some(found)),
+    let mut pieced = followed(alloc, asked.take(), text)?;
+    let said = call_in_followed(alloc, &by, session.prelude(), &mut pieced, at);
+    *asked = Some(pieced);
+    said
+}
+
+/// What is said of the call at a place of a session's text. `None` if there is none, or that takes
+/// too many tokens. `asked` is the text that was asked about last: it becomes this text.
+pub(crate) fn call_at(
+    alloc: Global,
+    session: &Session<AnyGrammar>,
+    place: Position,
+    asked: &mut Option<PiecedText>,
+) -> Result<Option<Called>, AllocError>
+    requires { length session.now.text < 2 ^ 32 }
+    ensures { IfOk result (IsSaidAt session.now place) }
+{
+    match said_at(alloc, session, place, asked) {
+        Ok(called) => Ok(called),
         Err(TtFault::Tokens) => Ok(None),
         Err(_) => Err(AllocError),
     }
@@ -69,15 +107,15 @@ fn tokens_value(alloc: Global, name: &str, gives: &Option<Printed>) -> Result<Va
     expansion_data(alloc, name, laid)
 }
 
-fn expansion_value(alloc: Global, text: &str, found: &Option<Found>) -> Result<Value, AllocError>
-    ensures { IfOk result (λ v. ShowsExpansion found.now (view v)) }
+fn expansion_value(alloc: Global, text: &str, called: &Option<Called>) -> Result<Value, AllocError>
+    ensures { IfOk result (λ v. ShowsExpansion called.now (view v)) }
 {
-    match found {
-        Some(Found::Call(called)) => {
+    match called {
+        Some(called) => {
             let name = name_in(text, called.place.name);
             tokens_value(alloc, name, &called.gives)
         }
-        _ => Ok(Value::Null),
+        None => Ok(Value::Null),
     }
 }
 
@@ -120,16 +158,16 @@ fn hover_data(
     json!(in alloc; {"contents": {"kind": "markdown", "value": shown}, "range": range})
 }
 
-fn hover_value(alloc: Global, text: &str, found: &Option<Found>) -> Result<Value, AllocError>
+fn hover_value(alloc: Global, text: &str, called: &Option<Called>) -> Result<Value, AllocError>
     requires { length text.now < 2 ^ 32 }
-    ensures { IfOk result (λ v. ShowsHover text.now found.now (view v)) }
+    ensures { IfOk result (λ v. ShowsHover text.now called.now (view v)) }
 {
-    match found {
-        Some(Found::Call(called)) => {
+    match called {
+        Some(called) => {
             let shown = hover_text(alloc, &called.gives, called.faults.as_slice())?;
             hover_data(alloc, text, shown, called)
         }
-        _ => Ok(Value::Null),
+        None => Ok(Value::Null),
     }
 }
 
@@ -139,12 +177,13 @@ pub(crate) fn expansion_at(
     alloc: Global,
     session: &Session<AnyGrammar>,
     place: Position,
+    asked: &mut Option<PiecedText>,
 ) -> Result<Value, AllocError>
     requires { length session.now.text < 2 ^ 32 }
-    ensures { IfOk result (λ v. ShowsFound ShowsExpansion session.now place (view v)) }
+    ensures { IfOk result (λ v. ShowsCall ShowsExpansion session.now place (view v)) }
 {
-    let found = found_at(alloc, session, place)?;
-    expansion_value(alloc, session.text(), &found)
+    let called = call_at(alloc, session, place, asked)?;
+    expansion_value(alloc, session.text(), &called)
 }
 
 /// What is shown of the call at a place of a session's text: what it expands to, laid out, or why
@@ -153,11 +192,12 @@ pub(crate) fn hover_at(
     alloc: Global,
     session: &Session<AnyGrammar>,
     place: Position,
+    asked: &mut Option<PiecedText>,
 ) -> Result<Value, AllocError>
     requires { length session.now.text < 2 ^ 32 }
     ensures { IfOk result (λ v.
-        ShowsFound (ShowsHover session.now.text) session.now place (view v)) }
+        ShowsCall (ShowsHover session.now.text) session.now place (view v)) }
 {
-    let found = found_at(alloc, session, place)?;
-    hover_value(alloc, session.text(), &found)
+    let called = call_at(alloc, session, place, asked)?;
+    hover_value(alloc, session.text(), &called)
 }

@@ -2,6 +2,7 @@
 //! session that is edited as the client edits the text, and what is answered about them.
 #![tactic(auto)]
 
+mod actions;
 mod calls;
 mod definitions;
 mod diagnostics;

@@ -9,6 +9,7 @@ ghost use Rattle.session_workspace.specs.OpenTexts.{IsFirstOf, IsLost, IsTold, I
 ghost use Rattle.session_workspace.specs.OpenTexts.{IsToldOf, Tells, document_of, documents_of};
 ghost use Rattle.session_workspace.specs.Questions.{Answers, IsAnswered};
 
+use crate::actions::actions_at;
 use crate::calls::{expansion_at, hover_at};
 use crate::definitions::definition_at;
 use crate::diagnostics::withdrawal;
@@ -20,6 +21,7 @@ use any_grammar::AnyGrammar;
 use client_texts::{Change, Note};
 use expander_session::session::Session;
 use lsp_server::{Question, Workspace};
+use pieced_text::PiecedText;
 use serde_json::Value;
 use std::alloc::{AllocError, Global};
 
@@ -39,25 +41,30 @@ pub struct SessionWorkspace<S> {
     pub(crate) setup: S,
     pub(crate) shown: Shown,
     pub(crate) texts: Vec<OpenText>,
+    /// The text that was asked about last, if there is one. It may be one that is closed.
+    pub(crate) asked: Option<PiecedText>,
 }
 
-// The answer to a question about a session's text, which has this name.
+// The answer to a question about a session's text, which has this name. `asked` is the text that
+// was asked about last.
 fn answer_of(
     alloc: Global,
     question: Question,
     uri: &str,
     session: &Session<AnyGrammar>,
+    asked: &mut Option<PiecedText>,
 ) -> Result<Value, AllocError>
     ensures { IfOk result (λ v.
-        length session.now.text < 2 ^ 32 → Answers question session.now (view v)) }
+        length session.now.text < 2 ^ 32 → Answers question uri.now session.now (view v)) }
 {
     let text = session.text();
     if text.len() > u32::MAX as usize {
         return Ok(Value::Null);
     }
     match question {
-        Question::Hover(place) => hover_at(alloc, session, place),
-        Question::Expansion(place) => expansion_at(alloc, session, place),
+        Question::Hover(place) => hover_at(alloc, session, place, asked),
+        Question::Expansion(place) => expansion_at(alloc, session, place, asked),
+        Question::Actions(place) => actions_at(alloc, uri, session, place, asked),
         Question::Symbols => symbols_of(alloc, text),
         Question::Definition(place) => definition_at(alloc, uri, text, place),
     }
@@ -86,6 +93,7 @@ impl<S: Setup> SessionWorkspace<S> {
             setup,
             shown,
             texts: Vec::new(alloc),
+            asked: None,
         }
     }
 
@@ -222,7 +230,13 @@ impl<S: Setup> Workspace for SessionWorkspace<S> {
         let Some(i) = find(self.texts.as_slice(), uri) else {
             return Ok(None);
         };
-        let answer = answer_of(self.alloc, question, uri, &self.texts[i].session)?;
+        let answer = answer_of(
+            self.alloc,
+            question,
+            uri,
+            &self.texts[i].session,
+            &mut self.asked,
+        )?;
         Ok(Some(answer))
     }
 }

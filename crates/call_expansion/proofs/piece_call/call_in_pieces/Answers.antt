@@ -23,4 +23,4 @@ returns-in-Some-clause-tokens g c = λ e.
 pub returns-in-None-clause-answer : goal.returns-in-None-clause-answer
 returns-in-None-clause-answer g c =
     none_said (text_layers (g.G.FragmentGrammar.answer c.args.by.now.grammar.now) c.args.by.now.edition c.args.by.now.dialect.now) c.args.by.now.depth c.args.at
-    (definitions_after [] c.args.prelude.now) c.args.pieces.now c.requires (c.last_begun.ensures.none c.in-None.is)
+    (definitions_after [] c.args.prelude.now) c.args.pieces.now c.requires (c.last_at.ensures.none c.in-None.is)

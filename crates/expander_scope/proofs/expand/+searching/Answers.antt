@@ -12,7 +12,7 @@ use Rattle.expander_scope.specs.ListsLeft.{IsAhead}
 use Rattle.expander_scope.specs.LocalTables.{AreReadIn}
 use Rattle.expander_scope.specs.Spending.{BurstsFirst, BurstsIn, Searched, Spends, Stops, left_behind, notes_with, with_left}
 use Rattle.expander_scope.specs.Turns.{left_under, shown_of}
-use Rattle.expander_scope.specs.declared.expand.Search.{Search}
+use Rattle.expander_scope.specs.declared.expand.search.Search.{Search}
 use Rattle.expander_scope.specs.Outcomes.{numbered_of_known}
 use Rattle.expander_scope.specs.ScopeTable.{scope_in}
 use Rattle.expander_scope.proofs.CallResultLemmas.{IsTried, adds_just, tried_note, tried_ok}

@@ -18,6 +18,6 @@ returns-clause-answered g c =
       first_among c.args.uri.now c.args.self.now.texts.items c.in-Some.i first,
       first.named,
       subst (λ (t : OpenText). length t.session.text < 2 ^ 32
-          → Answers c.args.question t.session (view c.in_ok-answer.answer)) taken
+          → Answers c.args.question c.args.uri.now t.session (view c.in_ok-answer.answer)) taken
           c.in_ok-answer.ensures,
     )
