@@ -1,5 +1,5 @@
-//! Expands the call at a byte of a text that was read as pieces, or that follows others: in the last
-//! piece that begins at or before the byte.
+//! Expands the call at a byte of a text that was read as pieces, or that follows others: in the
+//! last piece that begins at or before the byte.
 ghost use Rattle.std.specs.Prelude.{◌≡◌, ◌≤◌, ◌<◌, ◌++◌, ◌∷◌, [], All, Err, IfOk, IfSome};
 ghost use Rattle.std.specs.Prelude.{IsOkUnless, List, None, OnOk, is_some, map, option_map, true};
 ghost use Rattle.std.specs.List.{list_any};

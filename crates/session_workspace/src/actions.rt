@@ -86,8 +86,8 @@ fn actions_value(
 }
 
 /// What may be done with the call at a place of a session's text, which has this name: it may be
-/// replaced by what it expands to, laid out. Nothing if it stays or gives no tokens, if one of these
-/// has no spelling, or if no call is there.
+/// replaced by what it expands to, laid out. Nothing if it stays or gives no tokens, if one of
+/// these has no spelling, or if no call is there.
 pub(crate) fn actions_at(
     alloc: Global,
     uri: &str,
