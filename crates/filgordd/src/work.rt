@@ -5,7 +5,7 @@ use crate::conditions::{cfg_of, under};
 use crate::crates::perform_crate;
 use crate::explain::explain;
 use crate::job::{Action, Job};
-use crate::json::expand_as_json;
+use crate::json::{Asked, answer_as_json};
 use crate::layout::expand_in_lines;
 use crate::place::{Place, named_place};
 use crate::server::serve_editor;
@@ -66,6 +66,10 @@ fn tell(
 ) -> io::Result<ExitCode> {
     let mut options = task.options;
     options.dialect.excuses = false;
+    if task.json {
+        let asked = Asked::Explanation(task.place);
+        return answer_as_json(rt, options, prelude, text, asked);
+    }
     match std::str::from_utf8(text) {
         Ok(text) => explain(rt, options, prelude, name, text, task.place),
         Err(_) => stopped(rt, "input is not UTF-8"),
@@ -98,7 +102,14 @@ fn replay<R: Read + Drop>(
     let alloc = rt.alloc();
     let mut reader = BufReader::new(alloc, reader)?;
     let mut writer = Watched::new(rt.stdout());
-    let Answered { lines, end } = answer_script(alloc, &mut reader, &mut writer, options, prelude);
+    let Answered { lines, end } = answer_script(
+        alloc,
+        &mut reader,
+        &mut writer,
+        options,
+        prelude,
+        form,
+    );
     match end {
         End::Whole => Ok(ExitCode::SUCCESS),
         End::Wrong(wrong) => {
@@ -150,7 +161,7 @@ fn answer(
     } = task;
     match action {
         Action::View => show(rt, options, others, name, text),
-        _ if json => expand_as_json(rt, options, others.prelude, text),
+        _ if json => answer_as_json(rt, options, others.prelude, text, Asked::Expansion),
         _ if layout => expand_in_lines(rt, options, others.prelude, text),
         _ => Ok(expand(rt, options, others.prelude, text)),
     }
