@@ -108,7 +108,7 @@ is_simple_program app p =
     let explain : Shape = json_shape (codes "explain") p.explain p.is_explain in
     let lsp : Shape = with_sent (with_others (shape_by (codes "lsp") p.is_lsp.is_base.base p.is_lsp.is_base.is_base)) in
     let macros : Shape = in_crate (text_shape (codes "macros") p.is_macros.base p.is_macros.is_base) in
-    let replay : Shape = text_shape (codes "replay") p.replay p.is_replay in
+    let replay : Shape = json_shape (codes "replay") p.replay p.is_replay in
     ap is_simple (p.app_is
     ∙ ap (λ (s : Shape). of_six s p.explain p.lsp p.macros p.replay p.view)
     (p.is_expand.shape_is ∙ ap with_expand (text_shape_is (codes "expand") p.is_expand.base p.is_expand.is_base))
@@ -117,5 +117,5 @@ is_simple_program app p =
     (p.is_lsp.shape_is ∙ ap with_sent (p.is_lsp.is_base.shape_is ∙ ap with_others p.is_lsp.is_base.is_base.shape_is))
     ∙ ap (λ (s : Shape). of_six expand explain lsp s p.replay p.view)
     (p.is_macros.shape_is ∙ ap in_crate (text_shape_is (codes "macros") p.is_macros.base p.is_macros.is_base))
-    ∙ ap (λ (s : Shape). of_six expand explain lsp macros s p.view) (text_shape_is (codes "replay") p.replay p.is_replay)
+    ∙ ap (λ (s : Shape). of_six expand explain lsp macros s p.view) (json_shape_is (codes "replay") p.replay p.is_replay)
     ∙ ap (λ (s : Shape). of_six expand explain lsp macros replay s) (text_shape_is (codes "view") p.view p.is_view))

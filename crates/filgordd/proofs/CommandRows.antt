@@ -27,7 +27,7 @@ module _ (grammar edition scope depth calls tokens diagnostics : ValueParser) wh
     subs = in_crate (with_more json_rule (with_more layout_rule (on_text (codes "expand"))))
         ∷ with_more json_rule (on_text (codes "explain"))
         ∷ in_crate (with_more (diagnostics_rule diagnostics) (with_others (named (codes "lsp"))))
-        ∷ in_crate (on_text (codes "macros")) ∷ on_text (codes "replay")
+        ∷ in_crate (on_text (codes "macros")) ∷ with_more json_rule (on_text (codes "replay"))
         ∷ on_text (codes "view") ∷ [];
   }
 
@@ -99,6 +99,11 @@ module _ (grammar edition scope depth calls tokens diagnostics : ValueParser) wh
   explained : as_json (codes "filgordd" ∷ codes "explain" ∷ codes "--json" ∷ codes "t" ∷ []) ≡ Some (codes "explain", Some (codes "true"))
   unfolding clap_on_literals
   explained = refl
+
+  -- `filgordd replay --json`
+  replayed : as_json (codes "filgordd" ∷ codes "replay" ∷ codes "--json" ∷ []) ≡ Some (codes "replay", Some (codes "true"))
+  unfolding clap_on_literals
+  replayed = refl
 
   -- the root of a crate, and the files
   abbrev crate_words : List Text → Option (Option Text × (Option Text × Option (List Text)))

@@ -173,7 +173,7 @@ pub record IsProgram (app : App) : Type 0 where
   pub is_explain : IsJsonSubcommand (codes "explain") explain
   pub is_lsp : IsServerSubcommand lsp
   pub is_macros : IsMacrosSubcommand macros
-  pub is_replay : IsTextSubcommand (codes "replay") replay
+  pub is_replay : IsJsonSubcommand (codes "replay") replay
   pub is_view : IsTextSubcommand (codes "view") view
   pub app_is : app ≡ record {
     top = program_shape;

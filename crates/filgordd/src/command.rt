@@ -171,8 +171,8 @@ fn json<'a>(alloc: Global) -> Arg<'a>
         .long("json")
         .action(ArgAction::SetTrue)
         .help(
-            "Prints a line of JSON in place of text: the expansion with the origins of its tokens, \
-            or why the faults are there",
+            "Prints lines of JSON in place of text: one for the expansion, for what explains the \
+            faults, or for each answer to a script",
         )
 }
 
@@ -346,6 +346,6 @@ pub(crate) fn program<'a>(alloc: Global) -> Result<Command<'a>, AllocError>
         .subcommand(json_subcommand(alloc, "explain", explain)?)?
         .subcommand(server_subcommand(alloc)?)?
         .subcommand(macros_subcommand(alloc)?)?
-        .subcommand(text_subcommand(alloc, "replay", replay)?)?
+        .subcommand(json_subcommand(alloc, "replay", replay)?)?
         .subcommand(text_subcommand(alloc, "view", view)?)
 }

@@ -15,7 +15,7 @@ use any_grammar::AnyGrammar;
 use cfg_options::CfgOptions;
 use expander::{Options, Prelude, Status, Watched, run_after};
 use program_files::{Ended, Others, blank_front, misused, opened, others_of, read_whole, stopped};
-use replay_script::{Answered, End, answer_script, wrong_words};
+use replay_script::{Answered, End, Form, answer_script, wrong_words};
 use std::io;
 use std::io::{BufReader, Read};
 use std::process::ExitCode;
@@ -97,6 +97,7 @@ fn replay<R: Read + Drop>(
     rt: &HostRuntime,
     options: Options<AnyGrammar>,
     prelude: Prelude,
+    form: Form,
     reader: R,
 ) -> io::Result<ExitCode> {
     let alloc = rt.alloc();
@@ -176,7 +177,8 @@ fn work_on<R: Read + Drop>(
     reader: R,
 ) -> io::Result<ExitCode> {
     if task.action == Action::Replay {
-        return replay(rt, task.options, others.prelude, reader);
+        let form = if task.json { Form::Json } else { Form::Text };
+        return replay(rt, task.options, others.prelude, form, reader);
     }
     match read_whole(rt.alloc(), reader) {
         Ok(mut text) => {
