@@ -11,8 +11,7 @@ pub returns : goal.returns
 returns g c =
     let text = c.args.question.now.text.now in
     let all = c.args.faults.now in
-    let first = map view c.in_ok-list.list.items in
-    (
+    let first = map view c.in_ok-list.list.items in (
       first,
       subst (λ (fs : List Fault). AllZip (Explains (g.G.FragmentGrammar.answer c.args.question.now.grammar.now) text) fs first)
           (c.split_at.ensures.front ∙ ap (λ (n : ℕ). take n all) c.min.ensures ∙ first_are all most)
