@@ -1,5 +1,5 @@
 -- What is told of the rules of a definition for a call. (Of this project.)
-use Rattle.std.specs.Prelude.{◌≡◌, ◌↔◌, ℕ, suc, Bool, true, List, [], ◌∷◌, length, nat_lt}
+use Rattle.std.specs.Prelude.{◌≡◌, ◌↔◌, ℕ, suc, Bool, true, false, List, [], ◌∷◌, length, nat_lt}
 use Rattle.std.specs.Prelude.{Option, Some, None, is_some, if◌then◌else◌}
 use Rattle.std.specs.List.{IsFirstBest, list_any}
 use Rattle.tt_data.specs.Forest.{Forest}
@@ -17,6 +17,7 @@ use Rattle.mbe_explain.specs.Distances.{span_before_end}
 use Rattle.mbe_explain.specs.Stops.{HasTwoReadings, IsFirstClash, IsUnreadAt, IsWantedAt, Wanted}
 use Rattle.mbe_explain.specs.Wants.{wants_of}
 use Rattle.mbe_explain.specs.declared.explain.Stop.{Stop}
+use Rattle.mbe_explain.specs.declared.explain.StopKind.{StopKind}
 use Rattle.mbe_explain.specs.declared.explain.StopKind.TheVariants.{Ambiguous, Matches}
 use Rattle.mbe_explain.specs.declared.explain.StopKind.TheVariants.{TwoReadings, Unread}
 use Rattle.mbe_explain.specs.declared.rules.RuleStop.{RuleStop}
@@ -71,11 +72,21 @@ abbrev pub first_fitting : List RuleStop → Option ℕ
 first_fitting [] = None
 first_fitting (s ∷ ss) = if s.fits then Some s.index else first_fitting ss
 
--- one comes further than another: fewer steps are left
-abbrev pub comes_further : RuleStop → RuleStop → Bool
-comes_further s t = nat_lt s.stop.left t.stop.left
+-- a matcher may go on in two ways, or has two readings: after such a rule rustc tries no other
+abbrev pub is_undecided : StopKind → Bool
+is_undecided Ambiguous = true
+is_undecided TwoReadings = true
+is_undecided _ = false
 
--- the place in a list of the one that comes furthest, the first of equals; none if there is none
+-- how far a rule is from a match: not at all if it is undecided, else by the steps that are left
+abbrev pub distance : RuleStop → ℕ
+distance s = if is_undecided s.stop.kind then 0 else suc s.stop.left
+
+-- one is nearer to a match than another
+abbrev pub is_nearer : RuleStop → RuleStop → Bool
+is_nearer s t = nat_lt (distance s) (distance t)
+
+-- the place in a list of the one that is nearest, the first of equals; none if there is none
 abbrev pub IsNearest : List RuleStop → Option ℕ → Type 0
 IsNearest told None = told ≡ []
-IsNearest told (Some k) = IsFirstBest comes_further told (length told) k
+IsNearest told (Some k) = IsFirstBest is_nearer told (length told) k

@@ -41,12 +41,14 @@ explained text f (Some (Ok why)) =
     (member (codes "rules") (view why.rules)
     (member (codes "why") (string (codes "NoRuleFits")) no_members)))))))
 
--- what is found of the call of a fault: nothing where its kind is another, no definition that is
--- known, or how the rules of one take the argument of a call
+-- what is found of a call: no definition that is known, or how the rules of one take the argument
+abbrev pub IsFoundAt : Grammar → List ℕ → Result Why Unfit → Type 0
+IsFoundAt gr text found = (found ≡ Err Unknown) ⊎ ((known : Known) × IsWhy gr text known found)
+
+-- what is found of the call of a fault, if that is its kind
 abbrev pub IsFound : Grammar → List ℕ → Fault → Option (Result Why Unfit) → Type 0
 IsFound gr text f None = f.kind ≢ CannotExpand
-IsFound gr text f (Some found) =
-    (f.kind ≡ CannotExpand) × ((found ≡ Err Unknown) ⊎ ((known : Known) × IsWhy gr text known found))
+IsFound gr text f (Some found) = (f.kind ≡ CannotExpand) × IsFoundAt gr text found
 
 -- a value says why a fault is there
 abbrev pub Explains : Grammar → List ℕ → Fault → Data → Type 0

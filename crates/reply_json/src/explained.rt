@@ -5,8 +5,8 @@ ghost use Rattle.serde_json.specs.Data.{Data};
 ghost use Rattle.serde_json.specs.View.{view};
 ghost use Rattle.line_index.specs.Lines.{IsSpot};
 ghost use Rattle.call_json.specs.Spots.{AreOf};
-ghost use Rattle.reply_json.specs.Explanations.{AreExplained, Explains, IsFound, explained};
-ghost use Rattle.reply_json.specs.Explanations.{most, unfit_name};
+ghost use Rattle.reply_json.specs.Explanations.{AreExplained, Explains, IsFound};
+ghost use Rattle.reply_json.specs.Explanations.{IsFoundAt, explained, most, unfit_name};
 
 use crate::faults::{fault_from, kind_name, push_faults};
 use call_json::{Spots, Why, place_from, why_unfit};
@@ -42,6 +42,24 @@ fn unfit_name(unfit: Unfit) -> &'static str
     }
 }
 
+// Why no rule fits the call whose name begins at this byte.
+fn found_at<G: FragmentGrammar>(
+    alloc: Global,
+    question: &Question<'_, G>,
+    spots: &Spots,
+    at: u32,
+) -> Result<Result<Why, Unfit>, TtFault>
+    requires short { length question.now.text.now < 2 ^ 32 }
+    requires spots { AreOf question.now.text.now spots.now }
+    ensures { IfOk result (IsFoundAt (G.answer question.now.grammar.now) question.now.text.now) }
+{
+    let trees = question.trees.iter();
+    match known_at(alloc, question.edition, &trees, at)? {
+        None => Ok(Err(Unfit::Unknown)),
+        Some(known) => why_unfit(alloc, question.grammar, question.text, spots, &known),
+    }
+}
+
 // Why no rule fits the call of a fault, if that is its kind.
 fn found_of<G: FragmentGrammar>(
     alloc: Global,
@@ -54,15 +72,13 @@ fn found_of<G: FragmentGrammar>(
     ensures { IfOk result (IsFound (G.answer question.now.grammar.now) question.now.text.now
         fault.now) }
 {
-    if fault.kind != FaultKind::CannotExpand {
-        return Ok(None);
+    match fault.kind {
+        FaultKind::CannotExpand => {
+            let found = found_at(alloc, question, spots, fault.range.start)?;
+            Ok(Some(found))
+        }
+        _ => Ok(None),
     }
-    let trees = question.trees.iter();
-    let Some(known) = known_at(alloc, question.edition, &trees, fault.range.start)? else {
-        return Ok(Some(Err(Unfit::Unknown)));
-    };
-    let why = why_unfit(alloc, question.grammar, question.text, spots, &known)?;
-    Ok(Some(why))
 }
 
 // A fault that no rules explain, of which this is where its range starts.
