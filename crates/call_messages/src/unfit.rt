@@ -49,8 +49,8 @@ fn note_title(
     let mut title = format!(in alloc; "note: rule {number} of `{name}`")?;
     if count > 1 {
         title.push_str(match stop.stop.kind {
-            StopKind::Ambiguous | StopKind::TwoReadings => ", after which rustc tries no other",
-            StopKind::Matches | StopKind::Unread => ", which comes furthest",
+            StopKind::Unread => ", which comes furthest",
+            _ => ", after which rustc tries no other",
         })?;
     }
     Ok(title)

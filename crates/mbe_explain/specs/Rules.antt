@@ -72,17 +72,16 @@ abbrev pub first_fitting : List RuleStop → Option ℕ
 first_fitting [] = None
 first_fitting (s ∷ ss) = if s.fits then Some s.index else first_fitting ss
 
--- a matcher may go on in two ways, or has two readings: after such a rule rustc tries no other
-abbrev pub is_undecided : StopKind → Bool
-is_undecided Ambiguous = true
-is_undecided TwoReadings = true
-is_undecided _ = false
+-- rustc tries no rule after one that stops so: it is read, or it may be read in two ways
+abbrev pub ends_search : StopKind → Bool
+ends_search Unread = false
+ends_search _ = true
 
--- how far a rule is from a match: not at all if it is undecided, else by the steps that are left
+-- how far a rule is from where rustc stops: not at all if it is there, else by the steps that are left
 abbrev pub distance : RuleStop → ℕ
-distance s = if is_undecided s.stop.kind then 0 else suc s.stop.left
+distance s = if ends_search s.stop.kind then 0 else suc s.stop.left
 
--- one is nearer to a match than another
+-- one is nearer than another
 abbrev pub is_nearer : RuleStop → RuleStop → Bool
 is_nearer s t = nat_lt (distance s) (distance t)
 

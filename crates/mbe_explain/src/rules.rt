@@ -13,7 +13,7 @@ ghost use Rattle.mbe_transcriber.specs.Markers.{is_name};
 ghost use Rattle.mbe_transcriber.specs.Room.{IsWantOfRoom};
 ghost use Rattle.mbe_explain.specs.Rules.{AreTold, HasTooMuch, IsNearest, IsRuleStop};
 ghost use Rattle.mbe_explain.specs.Rules.{OneHasTooMuch};
-ghost use Rattle.mbe_explain.specs.Rules.{first_fitting, is_nearer, is_undecided, of_style};
+ghost use Rattle.mbe_explain.specs.Rules.{ends_search, first_fitting, is_nearer, of_style};
 
 use crate::explain::{Stop, StopKind, explain_pattern};
 use bumpalo::Bump;
@@ -38,9 +38,9 @@ pub struct RuleStop<'a> {
 pub struct Explanation<'a> {
     /// One for each rule of the style, in order.
     pub rules: Vec<RuleStop<'a>>,
-    /// Which of these is nearest to a match, by its place in `rules`: the first that is ambiguous or
-    /// has two readings, since rustc tries no rule after it; if there is none, the one that comes
-    /// furthest in the argument, the first of equals. `None` if no rule has the style.
+    /// Which of these is nearest to a match, by its place in `rules`: the first that does not stop
+    /// as `Unread`, since rustc tries no rule after it; if there is none, the one that comes furthest
+    /// in the argument, the first of equals. `None` if no rule has the style.
     pub nearest: Option<usize>,
 }
 
@@ -114,13 +114,13 @@ fn rule_stops<'a, G: FragmentGrammar>(
     Ok(told)
 }
 
-// Whether a matcher may go on in two ways, or has two readings.
-fn is_undecided(kind: StopKind) -> bool
-    ensures { result ≡ is_undecided kind }
+// Whether rustc tries no rule after one that stops so.
+fn ends_search(kind: StopKind) -> bool
+    ensures { result ≡ ends_search kind }
 {
     match kind {
-        StopKind::Ambiguous | StopKind::TwoReadings => true,
-        StopKind::Matches | StopKind::Unread => false,
+        StopKind::Unread => false,
+        StopKind::Matches | StopKind::Ambiguous | StopKind::TwoReadings => true,
     }
 }
 
@@ -128,10 +128,10 @@ fn is_undecided(kind: StopKind) -> bool
 fn is_nearer(one: &RuleStop<'_>, other: &RuleStop<'_>) -> bool
     ensures { result ≡ is_nearer one.now other.now }
 {
-    if is_undecided(other.stop.kind) {
+    if ends_search(other.stop.kind) {
         return false;
     }
-    is_undecided(one.stop.kind) || one.stop.left < other.stop.left
+    ends_search(one.stop.kind) || one.stop.left < other.stop.left
 }
 
 // The place of the one that is nearest to a match, the first of equals.
