@@ -77,7 +77,7 @@ abbrev pub ends_search : StopKind → Bool
 ends_search Unread = false
 ends_search _ = true
 
--- how far a rule is from where rustc stops: not at all if it is there, else by the steps that are left
+-- how far a rule is from where rustc stops: nothing at such a rule, else the steps that are left
 abbrev pub distance : RuleStop → ℕ
 distance s = if ends_search s.stop.kind then 0 else suc s.stop.left
 
