@@ -1,4 +1,5 @@
 # For the scripts beside it, which read it behind common.sh: whole crates in folders, and the source of std.
+# shellcheck shell=bash disable=SC2034,SC2154 # `work` is of common.sh; `folders` and `std` are for the script
 
 default='anyhow bindgen bitflags bytes cc chrono clap crossbeam-utils futures-util hyper indexmap itertools libc log memchr mio
 nom num-traits proc-macro2 quote rand rayon regex semver serde serde-json smallvec syn thiserror time tokio toml tracing-core

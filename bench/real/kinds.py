@@ -193,4 +193,5 @@ def main():
     show(sums, kinds)
 
 
-main()
+if __name__ == "__main__":
+    main()
