@@ -4,8 +4,7 @@
 
 rustc tells the steps of a call that is written in a text together, at its place: what is expanded and to what, however
 deep. Ours are put together alike: a step belongs to the nearest call around it, or itself, whose name is written in the
-text. Steps are compared as tokens, by bench/agreement/compare.py; `$crate` of another crate is printed as its name, and
-what is in a call's brackets counts, not their kind. Steps of macros for which the expander has no definition are counted
+text. Steps are compared as tokens, by bench/agreement/compare.py; what is in a call's brackets counts, not their kind. Steps of macros for which the expander has no definition are counted
 apart.
 """
 import json, os, re, subprocess, sys
@@ -14,6 +13,8 @@ from glob import glob
 from compare import normal, same, trees
 from kinds import Package
 
+# What `$crate` is printed as, of this crate or another.
+ROOTS = ('crate', 'core', 'std', 'alloc')
 CALL = re.compile(r'^(.*?)\s*!\s*(?:[({\[])(.*)[)}\]]$', re.S)
 
 
@@ -78,11 +79,15 @@ def argument(text):
 
 
 def equal(want, got):
-    a, b = normal(want.replace('$crate', 'crate')), normal(got)
-    if a == b or ''.join(a) == ''.join(b):
-        return True
-    a, b = trees(a), trees(b)
-    return a is not None and b is not None and same(a, b)
+    b = normal(got)
+    for root in ROOTS:
+        a = normal(want.replace('$crate', root))
+        if a == b or ''.join(a) == ''.join(b):
+            return True
+        some, others = trees(a), trees(b)
+        if some is not None and others is not None and same(some, others):
+            return True
+    return False
 
 
 def compare(told, ours, known, sums, show):
