@@ -1,5 +1,5 @@
 //! Why the faults of a text are there.
-ghost use Rattle.std.specs.Prelude.{◌≡◌, ◌<◌, ◌^◌, ◌++◌, IfOk, OnOk, length, map, min};
+ghost use Rattle.std.specs.Prelude.{◌≡◌, ◌<◌, ◌^◌, ◌++◌, ◌∷◌, [], IfOk, OnOk, length, map, min};
 ghost use Rattle.std.specs.List.{AllZip};
 ghost use Rattle.serde_json.specs.Data.{Data};
 ghost use Rattle.serde_json.specs.View.{view};
@@ -154,6 +154,14 @@ fn explained_from(
     }
 }
 
+// Adds a value.
+fn add(list: &mut Vec<Value>, value: Value) -> Result<(), AllocError>
+    ensures { OnOk result (list.new.items ≡ list.old.items ++ value ∷ []) }
+{
+    list.push(value)?;
+    Ok(())
+}
+
 // Faults, in order, each with why it is there.
 fn explained_list<G: FragmentGrammar>(
     alloc: Global,
@@ -173,7 +181,7 @@ fn explained_list<G: FragmentGrammar>(
         spot = spot_at(text, spot, fault.range.start as usize);
         let found = found_of(alloc, question, &spots, fault)?;
         let value = explained_from(alloc, text, spot, fault, found)?;
-        list.push(value).map_err(AllocError::from)?;
+        add(&mut list, value)?;
     }
     Ok(list)
 }
