@@ -4,7 +4,9 @@ use Rattle.serde_json.specs.Data.{Data}
 use Rattle.serde_json.specs.Written.{compact_text}
 use Rattle.expander.specs.Expanded.{Expanded}
 use Rattle.expander_session.specs.declared.commands.Answer.{Answer}
-use Rattle.expander_session.specs.declared.commands.Answer.TheVariants.{Edited, BadEdit, Reply as Replied, Refused}
+use Rattle.expander_session.specs.declared.commands.Answer.TheVariants.{Edited, BadEdit, Refused}
+use Rattle.expander_session.specs.declared.commands.Answer.TheVariants.{Reply as Replied}
+use Rattle.expander_session.specs.declared.session.Reply.{Reply}
 use Rattle.expander_session.specs.declared.session.Reply.TheVariants.{Read, Unread}
 use Rattle.reply_json.specs.Lines as lines
 use Rattle.replay_script.specs.Progress.{Progress, after}
@@ -22,12 +24,16 @@ abbrev pub expansion_value : List ℕ → Expanded → Data
 expansion_value text e =
     if nat_lt (length e.printed) (2 ^ 32) then lines.expansion text e else lines.too_long
 
+-- a reply to a text
+abbrev pub reply_value : List ℕ → Reply → Data
+reply_value text (Read e) = expansion_value text e
+reply_value text (Unread fault) = lines.unread text fault
+
 -- the answer to a command, after which the session has this text
 abbrev pub command_value : List ℕ → Answer → Data
 command_value text Edited = lines.bare (codes "edited")
 command_value text BadEdit = lines.bare (codes "bad_edit")
-command_value text (Replied (Read e)) = expansion_value text e
-command_value text (Replied (Unread fault)) = lines.unread text fault
+command_value text (Replied reply) = reply_value text reply
 command_value text (Refused refusal) = lines.refused refusal
 
 -- the answer to a line, after which the session has this text

@@ -3,6 +3,7 @@ ghost use Rattle.std.specs.Prelude.{◌≡◌, ◌<◌, ◌^◌, IfOk, length, s
 ghost use Rattle.serde_json.specs.Written.{compact_text};
 ghost use Rattle.replay_script.specs.LineTurns.{IsShort};
 ghost use Rattle.replay_script.specs.Written.{answer_value, command_value, expansion_value};
+ghost use Rattle.replay_script.specs.Written.{reply_value};
 
 use crate::answer::LineAnswer;
 use expander::{Answer, Expansion, Reply};
@@ -24,6 +25,18 @@ fn expansion_json(alloc: Global, text: &str, found: &Expansion) -> Result<String
     expansion_line(alloc, text, found)
 }
 
+// The line of a reply to a text.
+fn reply_line(alloc: Global, text: &str, reply: &Reply) -> Result<String, AllocError>
+    requires { length text.now < 2 ^ 32 }
+    ensures { IfOk result (λ line. string_bytes line
+        ≡ compact_text (reply_value text.now reply.now)) }
+{
+    match reply {
+        Reply::Read(found) => expansion_json(alloc, text, found),
+        Reply::Unread(fault) => unread_line(alloc, text, *fault),
+    }
+}
+
 // The line of an answer to a command.
 fn command_json(alloc: Global, text: &str, answer: &Answer) -> Result<String, AllocError>
     requires { length text.now < 2 ^ 32 }
@@ -33,8 +46,7 @@ fn command_json(alloc: Global, text: &str, answer: &Answer) -> Result<String, Al
     match answer {
         Answer::Edited => bare_line(alloc, "edited"),
         Answer::BadEdit => bare_line(alloc, "bad_edit"),
-        Answer::Reply(Reply::Read(found)) => expansion_json(alloc, text, found),
-        Answer::Reply(Reply::Unread(fault)) => unread_line(alloc, text, *fault),
+        Answer::Reply(reply) => reply_line(alloc, text, reply),
         Answer::Refused(refusal) => refused_line(alloc, *refusal),
     }
 }
