@@ -1,5 +1,5 @@
 -- Chains of numbers: one more, one fewer, and the search from one to the one before it.
-use Rattle.std.proofs.Common.{◌≡◌, ◌≢◌, ◌∙◌, ap, sym, subst, refl, ℕ, zero, suc, ◌<◌, ◌≤◌, ◌-◌, ◌⊎◌, inl, inr, arith}
+use Rattle.std.proofs.Common.{◌≡◌, ◌≢◌, ◌∙◌, ap, sym, subst, refl, ℕ, zero, suc, ◌<◌, ◌≤◌, ◌⊎◌, inl, inr, arith}
 use Rattle.token_bytes.specs.Numbers.{AreChained}
 
 pub less_or : (i n : ℕ) → i < suc n → (i < n) ⊎ (i ≡ n)

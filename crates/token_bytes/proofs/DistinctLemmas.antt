@@ -1,13 +1,9 @@
 -- Tables in which each text is new to those before it.
-use Rattle.std.proofs.Common.{inl, inr, if◌then◌else◌, ◌≡◌, ◌∙◌, sym, subst, ℕ, List, [], ◌∷◌, ◌++◌, length, take, drop, refl, arith, append_assoc, append-nil, nat_eq, Option, Some, None, Bool, true, false}
-use Rattle.std.proofs.lemmas.Bool.{cases_lt}
+use Rattle.std.proofs.Common.{◌≡◌, sym, subst, ℕ, List, [], ◌∷◌, ◌++◌, length, take, drop, append_assoc, append-nil, None}
 use Rattle.std.proofs.lemmas.List.{take-append-drop}
-use Rattle.std.specs.Cmp.Lexicographic.{pointwise, bytes_decides}
-use Rattle.tt_data.specs.declared.tree.TokenTree.{TokenTree}
-use Rattle.token_bytes.specs.Records.{text_of}
-use Rattle.token_bytes.specs.Packing.{number_of, table_after, with_text, with_token}
+use Rattle.token_bytes.specs.Packing.{number_of}
 use Rattle.token_bytes.specs.Numbers.{AreDistinct, AreNew, known_number}
-use Rattle.token_bytes.proofs.NumberLemmas.{next_is_unknown, number_of-bound, with_text-next, with_text-there}
+use Rattle.token_bytes.proofs.NumberLemmas.{next_is_unknown}
 
 new_more : (before xs : List (List ℕ)) (x : List ℕ) → AreNew before xs → known_number x (before ++ xs) ≡ None → AreNew before (xs ++ x ∷ [])
 new_more before [] x new unknown = (rw (append-nil before) at unknown, tt)

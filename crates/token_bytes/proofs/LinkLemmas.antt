@@ -1,5 +1,5 @@
 -- Linked texts: one more, one fewer, and the search for one.
-use Rattle.std.proofs.Common.{◌≡◌, ◌≢◌, ◌∙◌, ap, sym, subst, refl, ℕ, zero, suc, ◌+◌, ◌<◌, ◌≤◌, List, [], ◌∷◌, ◌++◌, length, take, set, get_or, arith}
+use Rattle.std.proofs.Common.{◌≡◌, ◌∙◌, ap, sym, subst, refl, ℕ, suc, ◌+◌, ◌<◌, ◌≤◌, List, [], ◌∷◌, ◌++◌, length, set, get_or, arith}
 use Rattle.std.proofs.lemmas.List.{get_or_append_left, get_or_at, get_or_read, get_or-set_other, get_or-set_same, length-set, length_push}
 use Rattle.token_bytes.specs.Numbers.{AreChained, AreLinked, class_at, class_of}
 use Rattle.token_bytes.specs.declared.text_chains.TextChains.{TextChains}

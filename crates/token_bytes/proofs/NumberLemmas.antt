@@ -1,9 +1,6 @@
 -- Numbers of texts: those that are known, and the one that a new text gets.
-use Rattle.std.proofs.Common.{if◌then◌else◌, ◌≡◌, ◌∙◌, ap, sym, subst, ℕ, suc, ◌+◌, ◌<◌, ◌≤◌, List, [], ◌∷◌, ◌++◌, length, length-take-le, take, refl, arith, nat_eq, get_or, add-one, Option, Some, None, option_map, Bool, true, false}
-use Rattle.std.proofs.Math.Seq.{take-suc}
-use Rattle.std.specs.Prelude.{is_some}
-use Rattle.std.proofs.lemmas.Bool.{false≢true}
-use Rattle.std.specs.Cmp.Lexicographic.{pointwise, bytes_decides}
+use Rattle.std.proofs.Common.{◌≡◌, ap, ℕ, suc, ◌<◌, ◌≤◌, List, [], ◌∷◌, ◌++◌, length, refl, arith, nat_eq, None, option_map, Bool, true, false}
+use Rattle.std.specs.Cmp.Lexicographic.{pointwise}
 use Rattle.token_bytes.specs.Packing.{number_of, with_text}
 use Rattle.token_bytes.specs.Numbers.{known_number}
 

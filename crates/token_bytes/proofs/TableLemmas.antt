@@ -1,6 +1,5 @@
 -- Numbers of texts in a table without a text twice.
-use Rattle.std.proofs.Common.{if◌then◌else◌, ◌≡◌, ◌∙◌, ap, sym, subst, refl, ℕ, zero, suc, ◌+◌, ◌<◌, List, [], ◌∷◌, ◌++◌, append_assoc, length, take, drop, set, get_or, nat_eq, arith, Option, Some, None, option_map, Bool, true, false, inl, inr}
-use Rattle.std.proofs.lemmas.Bool.{false≢true}
+use Rattle.std.proofs.Common.{◌≡◌, ◌∙◌, ap, sym, subst, refl, ℕ, zero, suc, ◌+◌, ◌<◌, List, [], ◌∷◌, ◌++◌, append_assoc, length, take, drop, set, get_or, nat_eq, arith, Option, Some, None, option_map, Bool, true, false, inl, inr}
 use Rattle.std.proofs.lemmas.List.{get_or_append_left, get_or_at, get_or-set_other, get_or-set_same, length_push, take-append-drop, take_more}
 use Rattle.std.proofs.Math.Seq.{length-take-le}
 use Rattle.std.specs.Cmp.Lexicographic.{pointwise, bytes_decides}

@@ -1,5 +1,5 @@
 -- What the functions inside promise each other: how the number of a text is found.
-use Rattle.std.specs.Prelude.{◌≡◌, ℕ, suc, ◌%◌, ◌<◌, ◌≤◌, ⊤, List, [], ◌∷◌, ◌++◌, length, Option, Some, None, option_map, nat_eq, get_or, if◌then◌else◌}
+use Rattle.std.specs.Prelude.{◌≡◌, ℕ, suc, ◌%◌, ◌<◌, ⊤, List, [], ◌∷◌, ◌++◌, length, Option, Some, None, option_map, nat_eq, get_or, if◌then◌else◌}
 use Rattle.std.specs.Cmp.Lexicographic.{pointwise}
 use Rattle.std.specs.Hash.FoldHasher.{initial, write}
 use Rattle.token_bytes.specs.declared.text_chains.TextChains.{TextChains}

@@ -1,5 +1,5 @@
 -- The search goes along the chain of the text's class.
-use Rattle.std.proofs.Common.{◌≡◌, ◌∙◌, ◌-◌, ◌%◌, ℕ, List, [], suc, ap, sym, subst, arith, length, get_or, slice_get}
+use Rattle.std.proofs.Common.{◌≡◌, ◌∙◌, ◌-◌, ◌%◌, ℕ, [], suc, ap, sym, subst, arith, length, get_or}
 use Rattle.std.proofs.lemmas.Bool.{false≢true}
 use Rattle.std.proofs.lemmas.List.{get_or_read}
 use Rattle.std.specs.Cmp.Lexicographic.{bytes_decides}

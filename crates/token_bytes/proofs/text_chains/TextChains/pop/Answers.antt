@@ -1,5 +1,5 @@
 -- The text goes from the end of the chain of its class.
-use Rattle.std.proofs.Common.{refl, ◌≡◌, ◌∙◌, ◌%◌, ap, sym, arith, length}
+use Rattle.std.proofs.Common.{refl, ◌≡◌, ◌∙◌, ◌%◌, ap, arith, length}
 use Rattle.token_bytes.specs.Numbers.{class_of}
 use Rattle.token_bytes.proofs.LinkLemmas.{linked_fewer}
 use Rattle.token_bytes.proofs.text_chains.TextChains.pop.Goals as goal
