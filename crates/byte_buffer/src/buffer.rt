@@ -10,7 +10,7 @@ use std::marker::Model;
 use std::mem::replace;
 
 // The least number of places in a block.
-const LEAST: usize = 32;
+const LEAST: usize = 128;
 
 /// A list of bytes in one block of memory.
 pub struct ByteBuffer {

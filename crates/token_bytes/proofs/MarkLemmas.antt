@@ -14,8 +14,6 @@ use Rattle.token_bytes.specs.Packing.{number_in, number_of, record_of, records, 
 use Rattle.token_bytes.specs.Packed.{ArePacked, IsToken}
 use Rattle.token_bytes.specs.Marks.{IsHeadIn, IsMarkIn, mark_of, record_size, records_size, texts_in}
 use Rattle.token_bytes.specs.declared.mark.Mark.{Mark}
-use Rattle.token_bytes.specs.Numbers.{AreDistinct}
-use Rattle.token_bytes.proofs.DistinctLemmas.{distinct_after, distinct_token}
 use Rattle.token_bytes.proofs.NumberLemmas.{number_of-bound, with_text-next, with_text-there}
 use Rattle.token_bytes.proofs.RecordLemmas.{first_size-bytes, number-word, sort-group, sort-ident, sort-literal, sort-punct}
 use Rattle.token_bytes.proofs.PackingLemmas.{added, records-append, table_after-added, table_after-append, tokens_in-records, with_token-append}
@@ -340,22 +338,11 @@ room_in ts n most bytes table all shown room =
       omega (arith, room, ap length shown, length-tokens_in n table bytes),
     )
 
-pub distinct_in : (ts : List TokenTree) (bytes : List ℕ) (table : List (List ℕ)) → ArePacked ts bytes table → AreDistinct table
-distinct_in ts bytes table packed = subst AreDistinct (sym packed.table_is) (distinct_after ts)
-
 pub held_first : (p : Mark) (ts : List TokenTree) (n : ℕ) (bytes bytes2 : List ℕ) (table table2 : List (List ℕ))
     → ArePacked (tokens_in n table bytes) bytes table → tokens_in n table bytes ≡ ts → IsMarkIn p ts
     → bytes2 ≡ take p.bytes bytes → table2 ≡ take p.texts table → Holds (take p.count ts) p.count bytes2 table2
 held_first p ts n bytes bytes2 table table2 all shown is cut cut_table =
     rw (cut, cut_table) (holds_first p ts bytes table (subst (λ l. ArePacked l bytes table) shown all) is)
-
--- a table that a refused token's text may have joined
-pub distinct_left : (found : Option (List ℕ)) (table left : List (List ℕ)) → AreDistinct table → (left ≡ table) ⊎ (left ≡ with_token found table) → AreDistinct left
-distinct_left found table left distinct one =
-    elim one [
-      | inl same ↦ subst AreDistinct (sym same) distinct
-      | inr joined ↦ subst AreDistinct (sym joined) (distinct_token found table distinct)
-    ]
 
 pub left_is : (found : Option (List ℕ)) (table left : List (List ℕ)) (n : ℕ) → n ≡ length table → (left ≡ table) ⊎ (left ≡ with_token found table) → take n left ≡ table
 left_is found table left n counted one =

@@ -1,7 +1,7 @@
 //! Owned runs of tokens.
 ghost use Rattle.std.specs.Prelude.{◌≡◌, ◌⊎◌, ◌<◌, ◌≤◌, ◌+◌, ◌^◌, ◌∷◌, ◌++◌, [], length};
 ghost use Rattle.std.specs.Prelude.{option_map, slice_index_or, suc, take, drop, set, true};
-ghost use Rattle.std.specs.Prelude.{vec_len};
+ghost use Rattle.std.specs.Prelude.{fold, vec_len};
 ghost use Rattle.std.specs.Prelude.{IfErr, IfOk, OnOk, OnErr};
 ghost use Rattle.tt_data.specs.declared.tree.TokenTree.{TokenTree};
 ghost use Rattle.tt_data.specs.declared.tree.TokenTree.TheVariants as token;
@@ -22,7 +22,7 @@ use crate::writing::{append_token, head_bytes};
 use byte_buffer::ByteBuffer;
 use std::alloc::{AllocError, Global};
 use std::fmt;
-use std::hash::{Hash, Hasher};
+use std::hash::Hasher;
 use std::marker::Model;
 use token_storage::Renaming;
 use tt_data::{Leaf, Subtree, Symbol, TokenTree};
@@ -53,6 +53,7 @@ impl Model for TokenBuffer {
 }
 
 // The text of a token, if it has one; of a literal, with its suffix.
+#[inline(always)]
 fn text_of(token: &TokenTree) -> Option<&Symbol>
     ensures { option_map (λ s. s.now) result ≡ text_of token.now }
 {
@@ -65,6 +66,7 @@ fn text_of(token: &TokenTree) -> Option<&Symbol>
 
 // The number of a token's text, which joins the table if it is not there; 0 if it has no text. A
 // refused call changes nothing.
+#[inline(always)]
 fn number_in(texts: &mut TextTable, token: &TokenTree) -> Result<u32, AllocError>
     requires numbered { IsNumbered texts.old }
     requires room { length texts.old.texts.items < 2 ^ 32 }
@@ -81,6 +83,7 @@ fn number_in(texts: &mut TextTable, token: &TokenTree) -> Result<u32, AllocError
 }
 
 // Stores a token after those so far. A refused call may leave the token's text in the table.
+#[inline(always)]
 fn append(
     records: &mut ByteBuffer,
     texts: &mut TextTable,
@@ -194,6 +197,7 @@ impl TokenBuffer {
     }
 
     // Appends a token. A refused call changes nothing.
+    #[inline(always)]
     fn store(&mut self, token: &TokenTree) -> Result<(), AllocError>
         requires room { length self.old < 2 ^ 32 }
         ensures ok { OnOk result (self.new ≡ self.old ++ token.now ∷ []) }
@@ -373,8 +377,7 @@ impl TokenBuffer {
 
 impl TokenBuffer {
     ghost use Rattle.std.specs.Cmp.Lexicographic.{pointwise};
-    ghost use Rattle.std.specs.Hash as fed;
-    ghost use Rattle.std.specs.Prelude.{fold, map};
+    ghost use Rattle.std.specs.Prelude.{map};
     ghost use Rattle.token_storage.specs.Anchors.{IsAtHand, answer_of};
     ghost use Rattle.token_bytes.specs.Packing.{records, table_after};
     ghost use Rattle.tt_data.specs.Spans.{anchor_with, token_with};
@@ -402,13 +405,24 @@ impl TokenBuffer {
         }
     }
 
-    /// Feeds the bytes and the table to a hasher.
+    /// Feeds the bytes as a whole to a hasher, and then each text of the table.
     pub fn feed<H: Hasher>(&self, state: &mut H)
-        ensures { state.new ≡ fold H.write state.old (fed.slice fed.u8 (records [] self.now)
-            ++ fed.slice fed.str (table_after [] self.now)) }
+        ensures { state.new ≡ fold H.write state.old
+            (records [] self.now ∷ table_after [] self.now) }
     {
-        self.stored.records.bytes().hash(state);
-        self.stored.texts.texts.as_slice().hash(state);
+        state.write(self.stored.records.bytes());
+        feed_texts(self.stored.texts.texts.as_slice(), state);
+    }
+}
+
+// Feeds each text to a hasher.
+fn feed_texts<H: Hasher>(texts: &[Symbol], state: &mut H)
+    ensures { state.new ≡ fold H.write state.old texts.now }
+{
+    let mut rest = texts;
+    while let Some((text, more)) = rest.split_first() {
+        state.write(text.as_str().as_bytes());
+        rest = more;
     }
 }
 

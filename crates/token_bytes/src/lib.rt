@@ -13,7 +13,7 @@ pub mod laws;
 mod mark;
 mod reading;
 mod stored;
-mod text_index;
+mod text_chains;
 mod text_table;
 mod tokens;
 mod writing;

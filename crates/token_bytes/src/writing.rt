@@ -146,12 +146,54 @@ pub(crate) fn head_bytes(head: &Subtree) -> [u8; 31]
     record
 }
 
+// Appends the record of the head of a group. That it and those below are never inlined decides
+// speed alone. A refused call changes nothing.
+#[inline(never)]
+fn append_head(buffer: &mut ByteBuffer, head: &Subtree) -> Result<(), AllocError>
+    ensures ok { OnOk result (buffer.new ≡ buffer.old ++ token_bytes 0 (token.Subtree head.now)) }
+    ensures err { OnErr result (buffer.new ≡ buffer.old) }
+{
+    buffer.append_array(head_bytes(head))
+}
+
+// Appends the record of a punct.
+#[inline(never)]
+fn append_punct(buffer: &mut ByteBuffer, punct: &Punct) -> Result<(), AllocError>
+    ensures ok { OnOk result (buffer.new ≡ buffer.old ++ leaf_bytes 0 (as_leaf.Punct punct.now)) }
+    ensures err { OnErr result (buffer.new ≡ buffer.old) }
+    ensures token { IsScalar punct.now.char }
+{
+    buffer.append_array(punct_bytes(punct))
+}
+
+// Appends the record of an identifier with this number.
+#[inline(never)]
+fn append_ident(buffer: &mut ByteBuffer, ident: &Ident, number: u32) -> Result<(), AllocError>
+    ensures ok { OnOk result (buffer.new
+        ≡ buffer.old ++ leaf_bytes number (as_leaf.Ident ident.now)) }
+    ensures err { OnErr result (buffer.new ≡ buffer.old) }
+{
+    buffer.append_array(ident_bytes(number, ident))
+}
+
+// Appends the record of a literal with this number.
+#[inline(never)]
+fn append_literal(buffer: &mut ByteBuffer, literal: &Literal, number: u32) -> Result<(), AllocError>
+    ensures ok { OnOk result (buffer.new
+        ≡ buffer.old ++ leaf_bytes number (as_leaf.Literal literal.now)) }
+    ensures err { OnErr result (buffer.new ≡ buffer.old) }
+    ensures token { IsToken (token.Leaf (as_leaf.Literal literal.now)) }
+{
+    buffer.append_array(literal_bytes(number, literal))
+}
+
 /// Appends the record of a token, the text of which is the entry with this number. The number of
 /// a token without a text has no effect.
 ///
 /// # Errors
 ///
 /// Want of memory. The bytes then stay the same.
+#[inline(always)]
 pub(crate) fn append_token(
     buffer: &mut ByteBuffer,
     token: &TokenTree,
@@ -162,11 +204,9 @@ pub(crate) fn append_token(
     ensures token { IsToken token.now }
 {
     match token {
-        TokenTree::Subtree(head) => buffer.append_array(head_bytes(head)),
-        TokenTree::Leaf(Leaf::Literal(literal)) => buffer.append_array(literal_bytes(
-            number, literal,
-        )),
-        TokenTree::Leaf(Leaf::Punct(punct)) => buffer.append_array(punct_bytes(punct)),
-        TokenTree::Leaf(Leaf::Ident(ident)) => buffer.append_array(ident_bytes(number, ident)),
+        TokenTree::Subtree(head) => append_head(buffer, head),
+        TokenTree::Leaf(Leaf::Literal(literal)) => append_literal(buffer, literal, number),
+        TokenTree::Leaf(Leaf::Punct(punct)) => append_punct(buffer, punct),
+        TokenTree::Leaf(Leaf::Ident(ident)) => append_ident(buffer, ident, number),
     }
 }

@@ -1,9 +1,6 @@
 -- The first tokens' records and texts come first.
-use Rattle.token_bytes.proofs.MarkLemmas.{distinct_in, held_first}
+use Rattle.token_bytes.proofs.MarkLemmas.{held_first}
 use Rattle.token_bytes.proofs.buffer.TokenBuffer.cut_back.Goals as goal
-
-pub cut_back-requires-2-clause-distinct : goal.cut_back-requires-2-clause-distinct
-cut_back-requires-2-clause-distinct c = distinct_in _ _ _ c.self.invariant.0
 
 pub invariant_of-self : goal.invariant_of-self
 invariant_of-self c =

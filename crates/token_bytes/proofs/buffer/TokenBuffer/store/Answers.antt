@@ -1,7 +1,7 @@
 -- The token's record and its text come last, or neither does.
 use Rattle.std.proofs.Common.{◌≡◌, ◌∙◌, ◌+◌, ◌^◌, refl, arith, length}
 use Rattle.token_bytes.specs.Records.{text_of}
-use Rattle.token_bytes.proofs.MarkLemmas.{distinct_in, distinct_left, held_again, held_more, left_is, room_in}
+use Rattle.token_bytes.proofs.MarkLemmas.{held_again, held_more, left_is, room_in}
 use Rattle.token_bytes.proofs.buffer.TokenBuffer.store.Goals as goal
 
 pub append-requires-clause-room : goal.append-requires-clause-room
@@ -19,11 +19,6 @@ pub returns-in-Ok-clause-ok : goal.returns-in-Ok-clause-ok
 returns-in-Ok-clause-ok c =
     let held = held_more c.args.self.now c.self.inside.count (c.self.inside.count + 1) c.self.inside.stored.records c.append.new.records c.self.inside.stored.texts.texts.items c.append.new.texts.texts.items c.args.token.now c.self.invariant.0 c.self.view_is c.in-Ok.ensures.token refl c.in-Ok.ensures.bytes c.in-Ok.ensures.table in
     held.shown
-
-pub cut_back-requires-clause-distinct : goal.cut_back-requires-clause-distinct
-cut_back-requires-clause-distinct c =
-    let table = c.self.inside.stored.texts.texts.items in
-    distinct_left (text_of c.args.token.now) table c.append.new.texts.texts.items (distinct_in _ _ table c.self.invariant.0) c.in-Err.ensures.left
 
 pub invariant_of-self-in-Err : goal.invariant_of-self-in-Err
 invariant_of-self-in-Err c =

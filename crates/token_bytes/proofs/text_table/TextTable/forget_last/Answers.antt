@@ -1,18 +1,27 @@
--- The last text is in the table once, so no other number goes.
-use Rattle.std.proofs.Common.{◌≡◌, ◌∙◌, ◌<◌, ◌+◌, ◌++◌, ◌∷◌, [], ap, arith, length, length-append}
-use Rattle.token_bytes.specs.Numbers.{few, known_number, number_at}
-use Rattle.token_bytes.proofs.DistinctLemmas.{index_without, last_is_new}
+-- The last text is taken out of its chain.
+use Rattle.std.proofs.Common.{◌≡◌, ◌∙◌, ◌++◌, ◌∷◌, [], List, ℕ, ap, sym, refl, subst, arith, length}
+use Rattle.token_bytes.specs.Numbers.{AreDistinct, AreLinked, AreMet, IsNumbered}
+use Rattle.token_bytes.specs.declared.text_table.TextTable.{TextTable}
+use Rattle.token_bytes.specs.Numbers.{AreLinkedIn}
+use Rattle.token_bytes.proofs.DistinctLemmas.{distinct_front}
+use Rattle.token_bytes.proofs.TableLemmas.{met_fewer}
 use Rattle.token_bytes.proofs.text_table.TextTable.forget_last.Goals as goal
 
-pub returns-then-len-gt-FEW-clause-numbered : goal.returns-then-len-gt-FEW-clause-numbered
-returns-then-len-gt-FEW-clause-numbered c =
-    let table = c.args.self.now.texts.items in
-    let front = c.pop.new.self.items in
-    let x = c.in-Some.text in
-    let parts : table ≡ front ++ x ∷ [] = c.in-Some.ensures.items in
-    let longer : length table ≡ length front + 1 = ap length parts ∙ length-append front (x ∷ []) in
-    let many : few < length front = omega (arith, c.if-len-gt-FEW.true, c.len.ensures, c.pop.new.self.ok.0) in
-    let knows = c.requires.numbered.all (omega (arith, many, longer)) in
-    let without = index_without x front (number_at c.args.self.now.index) (number_at c.remove.new.self) (λ t. knows t ∙ ap (known_number t) parts)
-    (last_is_new front table x parts c.requires.distinct) c.remove.ensures in
-    record { none = λ short. absurd (omega (arith, short, many)); all = λ long. without }
+fewer : (old new : TextTable) (x : List ℕ) → IsNumbered old → old.texts.items ≡ new.texts.items ++ x ∷ [] → new.recent ≡ old.recent
+    → AreLinkedIn new.chains new.texts.items → IsNumbered new
+fewer old new x is parts same linked = record {
+  distinct = distinct_front new.texts.items x (subst AreDistinct parts is.distinct);
+  room = ap length same ∙ is.room;
+  met = subst (λ r. AreMet r new.texts.items) (sym same) (met_fewer old.recent new.texts.items x (subst (AreMet old.recent) parts is.met));
+  linked = linked;
+}
+
+pub returns-then-size-ne0-clause-numbered : goal.returns-then-size-ne0-clause-numbered
+returns-then-size-ne0-clause-numbered c =
+    fewer c.args.self.now _ c.in-Some.text c.requires.numbered c.in-Some.ensures.items refl
+    (λ some. subst (AreLinked c.pop-then-size-ne0.new.self) c.as_slice.ensures.value c.pop-then-size-ne0.ensures.linked)
+
+pub returns-clause-numbered : goal.returns-clause-numbered
+returns-clause-numbered c =
+    fewer c.args.self.now _ c.in-Some.text c.requires.numbered c.in-Some.ensures.items refl
+    (λ some. absurd (omega (arith, some, c.if-size-ne0.false, c.size.ensures)))

@@ -15,11 +15,11 @@ returns-clause-table c =
     let table = c.args.self.now.texts.items in
     elim c.if-number-len.branch [
       | then-number-len+in_ok-clone+in_ok-append w ↦
-          let next : number_of text table ≡ length table = omega (arith, w.if-number-len.true, c.number_of-number.ensures, c.len.ensures) in
+          let next : number_of text table ≡ length table = omega (arith, w.if-number-len.true, c.number_of-number.ensures, c.len.ensures, c.args.self.now.texts.ok.0) in
           let copied : w.in_ok-clone.field-0 ≡ text = search rules in
           ap (λ t. t.texts.items) w.self-is ∙ w.in_ok-append.ensures.table ∙ ap (λ y. table ++ y ∷ []) copied ∙ sym (with_text-next text table next)
       | else-number-len w ↦
           let below : number_of text table < length table =
-          omega (arith, number_of-bound text table, w.if-number-len.false, c.number_of-number.ensures, c.len.ensures) in
+          omega (arith, number_of-bound text table, w.if-number-len.false, c.number_of-number.ensures, c.len.ensures, c.args.self.now.texts.ok.0) in
           ap (λ t. t.texts.items) w.self-is ∙ sym (with_text-there text table below)
     ]
