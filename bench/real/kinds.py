@@ -193,5 +193,4 @@ def main():
     show(sums, kinds)
 
 
-if __name__ == "__main__":
-    main()
+main()
