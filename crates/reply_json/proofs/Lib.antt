@@ -1,4 +1,3 @@
 pub mod ListLemmas
 pub mod FloatLemmas
-pub mod ExplainedLemmas
 pub mod Rows

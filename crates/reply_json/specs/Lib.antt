@@ -1,3 +1,2 @@
 -- what public contracts rest on
 pub mod Lines
-pub mod Explanations
