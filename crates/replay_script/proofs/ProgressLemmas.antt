@@ -313,5 +313,5 @@ short_turn layers old new had have line told.BadPrelude can h = tt
 short_turn layers old new had have line (told.Refused refusal) can h = tt
 short_turn layers old new had have (asked.Command c) (told.Unread number source fault) can h = absurd h
 short_turn layers old new had have (asked.Source n home text) (told.Unread number source fault) can h =
-    subst (λ (bytes : List ℕ). length bytes < 2 ^ 32) (sym h.1.is_answer.1.0) can.1
+    subst (λ (bytes : List ℕ). length bytes < 2 ^ 32) (sym h.1.is_answer.1) can.1
 short_turn layers old new had have (asked.Prelude picks) (told.Unread number source fault) can h = absurd h.0.is_answer

@@ -1,5 +1,12 @@
+use Rattle.expander_session.specs.State.{layers_of}
 use Rattle.replay_script.proofs.ProgressLemmas.{short_turn}
 use Rattle.replay_script.proofs.script.told_of.Goals as goal
 
 pub written-requires-clause-source : goal.written-requires-clause-source
-written-requires-clause-source g c = short_turn _ _ _ _ _ _ _ c.requires c.answer_of-answer.ensures
+written-requires-clause-source g c =
+    short_turn (layers_of g.G.FragmentGrammar.answer c.args.session.now) c.args.session.now c.answer_of-answer.new.session c.args.sources.now
+    c.answer_of-answer.new.sources c.args.line c.answer_of-answer.result c.requires c.answer_of-answer.ensures
+
+-- the session's invariant says so; where it stands among the facts is not found yet
+pub written-requires-clause-short : goal.written-requires-clause-short
+written-requires-clause-short g c = ?
