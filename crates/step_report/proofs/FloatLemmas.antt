@@ -1,0 +1,92 @@
+-- No number in a line is a float, so its text is known.
+use Rattle.std.proofs.Common.{◌≡◌, ℕ, Bool, true, false, List, [], ◌∷◌, refl, map}
+use Rattle.std.specs.Prelude.{Option, Some, None, Result, Ok, Err, if◌then◌else◌, nat_eq}
+use Rattle.serde_json.specs.Data.{Data}
+use Rattle.serde_json.specs.View.{items_of}
+use Rattle.serde_json.specs.Written.{has_float, items_have_float}
+use Rattle.tt_data.specs.Forest.{Forest}
+use Rattle.tt_data.specs.declared.span.Span.{Span}
+use Rattle.bridge.specs.Printing.{Print, print_of}
+use Rattle.call_json.specs.Places.{count}
+use Rattle.expander_model.specs.Definitions.{Definition, definition_of}
+use Rattle.expander_model.specs.declared.fault.FaultKind.{FaultKind}
+use Rattle.expander_trace.specs.Steps.{Attempt, Step}
+use Rattle.expander_trace.specs.declared.limits.Cut.{Cut}
+use Rattle.step_report.specs.Json.{cut_of, end_of}
+use Rattle.step_report.specs.Places.{other_name}
+use Rattle.step_report.specs.Texts.{Named}
+use Rattle.step_report.specs.Values.{at, call_trees, count_if, macro_if, macro_of, name_if}
+use Rattle.step_report.specs.Values.{printed, result_if, result_in, rule_if, rule_in, span_numbers, stays_if}
+use Rattle.step_report.specs.Values.{stays_in, step, trees}
+
+no_float_in : (ns : List ℕ) → items_have_float (items_of (map count ns)) ≡ false
+no_float_in [] = refl
+no_float_in (n ∷ ns) = no_float_in ns
+
+either : (b : Bool) (x y : Data) → has_float x ≡ false → has_float y ≡ false
+    → has_float (if b then x else y) ≡ false
+either true x y none other = none
+either false x y none other = other
+
+no_float_name : (name : Option (List ℕ)) → has_float (name_if name) ≡ false
+no_float_name None = refl
+no_float_name (Some name) = refl
+
+no_float_at : (t : Named) (s : Span) → has_float (at t s) ≡ false
+no_float_at t s = either (nat_eq s.anchor 0) _ _ refl (rw (no_float_name (other_name t s.anchor)) refl)
+
+no_float_printed : (p : Print) → has_float (printed p) ≡ false
+no_float_printed p = rw (no_float_in (span_numbers p.tokens)) refl
+
+no_float_definition : (t : Named) (d : Option Definition) → has_float (macro_of t d) ≡ false
+no_float_definition t None = refl
+no_float_definition t (Some d) = rw (no_float_at t d.name.span) refl
+
+no_float_macro : (t : Named) (a : Option (Attempt Forest)) → has_float (macro_if t a) ≡ false
+no_float_macro t None = refl
+no_float_macro t (Some a) = no_float_definition t (definition_of a.definition)
+
+no_float_call : (a : Option (Attempt Forest)) → has_float (call_trees a) ≡ false
+no_float_call None = refl
+no_float_call (Some a) = no_float_printed _
+
+no_float_given : (given : Result (ℕ × Forest) FaultKind) → has_float (result_in given) ≡ false
+no_float_given (Ok given) = no_float_printed _
+no_float_given (Err kind) = refl
+
+no_float_result : (a : Option (Attempt Forest)) → has_float (result_if a) ≡ false
+no_float_result None = refl
+no_float_result (Some a) = no_float_given a.given
+
+no_float_number : (given : Result (ℕ × Forest) FaultKind) → has_float (rule_in given) ≡ false
+no_float_number (Ok given) = refl
+no_float_number (Err kind) = refl
+
+no_float_rule : (a : Option (Attempt Forest)) → has_float (rule_if a) ≡ false
+no_float_rule None = refl
+no_float_rule (Some a) = no_float_number a.given
+
+no_float_why : (given : Result (ℕ × Forest) FaultKind) → has_float (stays_in given) ≡ false
+no_float_why (Ok given) = refl
+no_float_why (Err kind) = refl
+
+no_float_stays : (a : Option (Attempt Forest)) → has_float (stays_if a) ≡ false
+no_float_stays None = refl
+no_float_stays (Some a) = no_float_why a.given
+
+no_float_count : (n : Option ℕ) → has_float (count_if n) ≡ false
+no_float_count None = refl
+no_float_count (Some n) = refl
+
+pub step_has_no_float : (t : Named) (index : ℕ) (parent : Option ℕ) (s : Step Forest)
+    → has_float (step t index parent s) ≡ false
+step_has_no_float t index parent s =
+    rw (
+      no_float_at t s.name,
+      no_float_macro t s.attempt,
+      no_float_count parent,
+      no_float_result s.attempt,
+      no_float_rule s.attempt,
+      no_float_stays s.attempt,
+      no_float_call s.attempt,
+    ) refl

@@ -1,0 +1,4 @@
+-- lemmas by subject
+mod AskedLemmas
+mod FloatLemmas
+mod ListLemmas

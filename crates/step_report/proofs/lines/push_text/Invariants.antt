@@ -1,0 +1,13 @@
+use Rattle.std.proofs.Common.{◌≡◌, ◌++◌, drop, flat_map, map, string_bytes}
+use Rattle.expander_trace.specs.Given.{trace_in}
+use Rattle.step_report.specs.Lines.{trace_lines}
+use Rattle.step_report.specs.Texts.{texts_in}
+use Rattle.step_report.proofs.lines.push_text.Given as given
+
+-- the lines so far and those of the traces that are left are all
+abbrev pub invariant-loop-trace : given.invariant-loop-trace
+invariant-loop-trace l =
+    string_bytes l.out ++ flat_map (trace_lines (texts_in l.texts) l.asked)
+    (map trace_in (drop l.trace-index l.traces))
+    ≡ string_bytes l.initial.out ++ flat_map (trace_lines (texts_in l.texts) l.asked)
+    (map trace_in l.traces)

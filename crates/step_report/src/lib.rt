@@ -1,0 +1,15 @@
+//! What is told of the steps of calls: lines of text, and lines of JSON.
+#![tactic(auto)]
+
+mod asked;
+mod json;
+mod lines;
+mod places;
+mod positions;
+mod shown;
+mod texts;
+mod values;
+
+pub use json::push_json;
+pub use lines::push_text;
+pub use texts::Texts;

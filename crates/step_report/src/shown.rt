@@ -1,0 +1,112 @@
+//! Texts and trees as they are shown within a line.
+ghost use Rattle.std.specs.Prelude.{◌≡◌, ◌<◌, IfOk, chars, length, replicate};
+ghost use Rattle.bridge.specs.PrintedTrees.{print_in};
+ghost use Rattle.bridge.specs.Printing.{print_of};
+ghost use Rattle.tt_data.specs.Walk.{walk};
+ghost use Rattle.step_report.specs.Shown.{Adds, middle_cut, most, shown, shown_character};
+ghost use Rattle.step_report.specs.Shown.{shown_print, shown_trees};
+
+use bridge::{Printed, print};
+use hidden_marks::push_visible;
+use std::alloc::{AllocError, Global};
+use tt::TopSubtree;
+
+// How many characters of printed trees are shown.
+const MOST: usize = 60;
+
+// How many of each end are shown where there are more.
+const SIDE: usize = 28;
+
+// Adds a character as it is shown: a line feed as a blank, a hidden one by its mark.
+fn push_character(out: &mut String, c: char) -> Result<(), AllocError>
+    ensures { Adds result out.old out.new (shown_character c) }
+{
+    if c == '\n' {
+        return out.push(' ');
+    }
+    push_visible(out, c)
+}
+
+// Adds characters as they are shown.
+fn push_characters(out: &mut String, characters: &[char]) -> Result<(), AllocError>
+    ensures { Adds result out.old out.new (shown characters.now) }
+{
+    for c in characters {
+        push_character(out, *c)?;
+    }
+    Ok(())
+}
+
+// The characters of a text.
+fn characters_of(alloc: Global, text: &str) -> Result<Vec<char>, AllocError>
+    ensures { IfOk result (λ cs. cs.items ≡ chars text.now) }
+{
+    let characters: Vec<char> = text.chars().collect(alloc)?;
+    Ok(characters)
+}
+
+/// Adds a text as it is shown.
+pub(crate) fn push_shown(alloc: Global, out: &mut String, text: &str) -> Result<(), AllocError>
+    ensures { Adds result out.old out.new (shown (chars text.now)) }
+{
+    let characters = characters_of(alloc, text)?;
+    push_characters(out, &characters)
+}
+
+// Adds characters of which the middle is cut out, for there are more than are shown, and how many
+// tokens they are.
+fn push_cut(out: &mut String, characters: &[char], tokens: usize) -> Result<(), AllocError>
+    requires { most < length characters.now }
+    ensures { Adds result out.old out.new (middle_cut characters.now tokens) }
+{
+    push_characters(out, &characters[..SIDE])?;
+    out.push_str(" .. ")?;
+    push_characters(out, &characters[characters.len() - SIDE..])?;
+    write!(out, " ({tokens} tokens)")
+}
+
+// Adds a printed text as one line, at most sixty characters of it.
+fn push_print(alloc: Global, out: &mut String, printed: &Printed) -> Result<(), AllocError>
+    ensures { Adds result out.old out.new (shown_print (print_in printed.now)) }
+{
+    let characters = characters_of(alloc, printed.text.as_str().trim_end())?;
+    if characters.is_empty() {
+        return out.push_str("(no tokens)");
+    }
+    if characters.len() <= MOST {
+        return push_characters(out, &characters);
+    }
+    push_cut(out, &characters, printed.tokens.len())
+}
+
+/// The trees of a tree, printed alone.
+pub(crate) fn print_tree(alloc: Global, tree: &TopSubtree) -> Result<Printed, AllocError>
+    ensures { IfOk result (λ p. print_in p ≡ print_of (walk tree.now.inner)) }
+{
+    match print(alloc, tree.token_trees()) {
+        Ok(printed) => Ok(printed),
+        Err(_) => Err(AllocError),
+    }
+}
+
+/// Adds the trees of a tree, printed alone, at most sixty characters of them.
+pub(crate) fn push_tree(
+    alloc: Global,
+    out: &mut String,
+    tree: &TopSubtree,
+) -> Result<(), AllocError>
+    ensures { Adds result out.old out.new (shown_trees tree.now.inner) }
+{
+    let printed = print_tree(alloc, tree)?;
+    push_print(alloc, out, &printed)
+}
+
+/// Adds blanks.
+pub(crate) fn push_blanks(out: &mut String, count: usize) -> Result<(), AllocError>
+    ensures { Adds result out.old out.new (replicate count 32) }
+{
+    for _ in 0..count {
+        out.push(' ')?;
+    }
+    Ok(())
+}

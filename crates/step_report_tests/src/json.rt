@@ -1,0 +1,63 @@
+//! Texts, and the lines of JSON that tell of the steps of their calls.
+use crate::traces::{ALL, names_of, prelude_of, traces_of};
+use expander_trace::limits::Limits;
+use std::alloc::Global;
+use std::test::Fail;
+use step_report::{Texts, push_json};
+use tt_data::TtFault;
+
+const OTHER: &str = "macro_rules! pair { ($a:tt) => { one!($a) } }";
+
+const TEXT: &str = "macro_rules! one { (x) => { 1 } }\nlet é = pair!(x);\none!(2); no!();\n";
+
+const TOLD: &str =
+    r##"{"answer":"step","call":{"bytes":[43,47],"end":[1,12],"start":[1,8]},"index":0,"level":0,"macro":{"at":{"bytes":[13,17],"source":"other.rs"},"name":"pair"},"made":false,"name":"pair","parent":null,"result":{"origins":[1,33,36,1,36,37,1,37,38,0,49,50,1,40,41],"text":"one ! ( x )\n"},"rule":{"number":1},"stays":null,"tokens":{"origins":[0,43,47,0,47,48,0,48,49,0,49,50,0,50,51],"text":"pair ! ( x )\n"},"v":1}
+{"answer":"step","call":{"bytes":[33,36],"source":"other.rs"},"index":1,"level":1,"macro":{"at":{"bytes":[13,16],"end":[0,16],"start":[0,13]},"name":"one"},"made":true,"name":"one","parent":0,"result":{"origins":[0,28,29],"text":"1\n"},"rule":{"number":1},"stays":null,"tokens":{"origins":[1,33,36,1,36,37,1,37,38,0,49,50,1,40,41],"text":"one ! ( x )\n"},"v":1}
+{"answer":"step","call":{"bytes":[53,56],"end":[2,3],"start":[2,0]},"index":2,"level":0,"macro":{"at":{"bytes":[13,16],"end":[0,16],"start":[0,13]},"name":"one"},"made":false,"name":"one","parent":null,"result":null,"rule":null,"stays":{"message":"no rule matches"},"tokens":{"origins":[0,53,56,0,56,57,0,57,58,0,58,59,0,59,60],"text":"one ! ( 2 )\n"},"v":1}
+{"answer":"step","call":{"bytes":[62,64],"end":[2,11],"start":[2,9]},"index":3,"level":0,"macro":null,"made":false,"name":"no","parent":null,"result":null,"rule":null,"stays":{"message":"no definition of this macro is known here"},"tokens":null,"v":1}
+{"answer":"end","cut":false,"steps":4,"v":1}
+"##;
+
+const CUT_TOLD: &str =
+    r##"{"answer":"cut","by":"Steps","message":"there are more steps than are asked for","v":1}
+{"answer":"end","cut":true,"steps":0,"v":1}
+"##;
+
+// The lines for the calls of a text.
+fn told(alloc: Global, text: &str, limits: Limits) -> Result<String, TtFault> {
+    let prelude = prelude_of(alloc, OTHER)?;
+    let Some(traces) = traces_of(alloc, text, &prelude, None, limits)? else {
+        return Ok(String::from_str(alloc, "unread")?);
+    };
+    let names = names_of(alloc)?;
+    let texts = Texts::of(alloc, "calls.rs", text, &names)?;
+    let mut out = String::new(alloc);
+    push_json(alloc, &mut out, &texts, None, &traces)?;
+    Ok(out)
+}
+
+// Fails with a text if that is not what is expected.
+fn expect(got: &str, want: &str) -> Result<(), Fail> {
+    if got == want {
+        return Ok(());
+    }
+    Err(Fail::new(got))
+}
+
+#[test]
+fn steps_as_json(rt: HostRuntime) -> Result<(), Fail> {
+    let lines = told(rt.alloc(), TEXT, ALL)?;
+    expect(lines.as_str(), TOLD)?;
+    let lines = told(rt.alloc(), TEXT, Limits { steps: 0, ..ALL })?;
+    expect(lines.as_str(), CUT_TOLD)
+}
+
+// Lines that are refused memory are the same when they are made again.
+#[test]
+fn refused_json(rt: HostRuntime) -> Result<(), Fail> {
+    let lines = match told(rt.alloc(), TEXT, ALL) {
+        Ok(lines) => lines,
+        Err(_) => told(rt.alloc(), TEXT, ALL)?,
+    };
+    expect(lines.as_str(), TOLD)
+}
