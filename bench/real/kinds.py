@@ -3,8 +3,9 @@
     kinds.py PROGRAM LIBRARY FILES FOLDER..     at most FILES files are expanded
 
 A crate is the library of a package of the folders, or its program where it has none, with the features that cargo sets
-by default and the options that rustc sets. Calls are those outside definitions, by bench/survey/scope.py. A call by a
-single name has the nearest definition that `macros` lists for the file, wherever in the file the call is.
+by default and the options that rustc sets. It is given the packages of the folders that it depends on, of whatever version
+is there. Calls are those outside definitions, by bench/survey/scope.py. A call by a single name has the nearest definition
+that `macros` lists for the file, wherever in the file the call is.
 """
 import os, re, subprocess, sys
 from collections import Counter
@@ -13,7 +14,7 @@ from ask import std_picks
 from packages import manifest, read_root
 from scope import Crate
 
-KINDS = ('own', 'scope', 'use', 'std')
+KINDS = ('own', 'scope', 'use', 'std', 'extern')
 HEAD = re.compile(r'^// (.+)$', re.M)
 
 
@@ -34,16 +35,34 @@ def root_of(folder, said):
     return None
 
 
+def dependencies(said):
+    """The crates that a package may name, but for optional ones whose feature is not set: name, and package."""
+    on = ' '.join([' '.join(said.get('features', {}).get(name, [])) for name in features(said)] + features(said))
+    tables = [said, *said.get('target', {}).values()]
+    for name, how in [row for table in tables for row in table.get('dependencies', {}).items()]:
+        how = how if isinstance(how, dict) else {}
+        if not how.get('optional') or re.search(r'\b%s\b' % re.escape(name), on):
+            yield name.replace('-', '_'), how.get('package', name)
+
+
 class Package:
     def __init__(self, folder, library, host):
         said = manifest(folder)
-        self.folder, self.root = folder, root_of(folder, said)
+        self.folder, self.root, self.said = folder, root_of(folder, said), said
         self.name = said.get('package', {}).get('name', os.path.basename(folder))
         edition = said.get('package', {}).get('edition', '2015')
         self.edition = edition if isinstance(edition, str) else '2021'
         self.words = ['--crate', self.root or '', '--edition', self.edition, '--std', library]
         self.words += ['--cfg=' + option for option in host]
         self.words += ['--cfg=feature="%s"' % name for name in features(said)]
+
+    def give(self, packages):
+        """Has the crates given that this one depends on."""
+        for name, package in sorted(set(dependencies(self.said))):
+            other = packages.get(package)
+            if other and other.root and 'proc-macro' not in other.said.get('lib', {}):
+                root = os.path.join(other.folder, other.root)
+                self.words += ['--extern', '%s@%s=%s' % (name, other.edition, root)]
 
     def ask(self, program, action, *more):
         return subprocess.run([program, action, *self.words, *more], cwd=self.folder, capture_output=True, text=True)
@@ -63,7 +82,7 @@ class Package:
         return crate, {os.path.realpath(path): source for path, (source, _) in found.items()}
 
 
-def kind_of(call, names, crate, picks, builtin):
+def kind_of(call, names, crate, walked, picks, builtin):
     if call.by_path:
         return 'by a path'
     if call.name in names:
@@ -72,8 +91,8 @@ def kind_of(call, names, crate, picks, builtin):
         return 'own, in a group'
     if call.name in builtin:
         return 'built into the compiler'
-    if call.name in crate.definitions:
-        return 'none, though the crate has one'
+    if any(os.path.realpath(d.source.path) in walked for d in crate.definitions.get(call.name, ())):
+        return 'none, though a file of the crate has one'
     return 'none, though std has one' if call.name in picks else 'another crate, or a procedural macro'
 
 
@@ -135,11 +154,13 @@ def main():
     sys.setrecursionlimit(100000)
     host = subprocess.run(['rustc', '--print', 'cfg'], capture_output=True, text=True).stdout.split('\n')[:-1]
     picks, builtin, sums, kinds = std_picks(library), builtins(library), Counter(), Counter()
-    for folder in sorted(path for top in folders for path in glob(os.path.join(top, '*/'))):
-        package = Package(os.path.realpath(folder), library, host)
-        if not package.root:
-            continue
+    found = sorted(os.path.realpath(path) for top in folders for path in glob(os.path.join(top, '*/')))
+    packages = [Package(path, library, host) for path in found]
+    known = {package.name: package for package in packages}
+    for package in [it for it in packages if it.root]:
+        package.give(known)
         table = package.listed(program)
+        walked = {os.path.realpath(path) for path in table}
         crate, sources = package.sources()
         sums['crates'] += 1
         for path, names in table.items():
@@ -148,7 +169,7 @@ def main():
                 sums['unread'] += 1
                 continue
             sums['files'] += 1
-            kinds.update(kind_of(call, names, crate, picks, builtin) for call in source.calls)
+            kinds.update(kind_of(call, names, crate, walked, picks, builtin) for call in source.calls)
             if sums['expanded'] < most:
                 expanded(package, program, path, source, names, sums)
         print('%s: %d files' % (package.name, len(table)), file=sys.stderr, flush=True)

@@ -11,8 +11,8 @@ use Rattle.call_messages.specs.declared.unfit.Unfit.{Unfit}
 use Rattle.call_json.specs.Rules.{all_rules, name, number_of}
 use Rattle.call_json.specs.declared.why.Why.{Why}
 
--- the parts of a value: the definition of a call, the number of the rule that comes furthest, where
--- none fits, and how all rules take the argument
+-- the parts of a value: the definition of a call, the number of the rule that is nearest to a match,
+-- where none fits, and how all rules take the argument
 pub record Describes (text : List ℕ) (known : Known) (e : Explanation) (why : Why) : Type 0 where
   pub definition : view why.definition ≡ name text known.definition.name
   pub place : ℕ

@@ -23,7 +23,7 @@ use tt_data::{Ident, TtFault};
 pub struct Why {
     /// The name of the definition, and where it stands.
     pub definition: Value,
-    /// The number, from 1, of the rule that comes furthest.
+    /// The number, from 1, of the rule that is nearest to a match.
     pub nearest: usize,
     /// All rules, in order: how each stops.
     pub rules: Value,

@@ -9,7 +9,7 @@ use Rattle.mbe_explain.specs.Rules.{AreTold, IsNearest, of_style}
 use Rattle.mbe_explain.specs.declared.rules.Explanation.{Explanation}
 
 -- each of these rules for calls like a function is told of, by this grammar and for this argument,
--- and which comes furthest
+-- and which is nearest to a match
 pub record IsExplained (gr : Grammar) (rules : List Rule) (argument : Forest) (e : Explanation)
     : Type 0 where
   pub told : AreTold is_name gr argument (of_style FnLike 0 rules) e.rules.items

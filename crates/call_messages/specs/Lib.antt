@@ -1,5 +1,5 @@
--- the parts of a message about a range of a text; which rule of a call comes furthest, and what is
--- added about the call
+-- the parts of a message about a range of a text; which rule of a call is nearest to a match, and
+-- what is added about the call
 pub mod Plain
 pub mod Unfits
 -- how the rules of a call's definition take its argument; where they stop, and where what they want

@@ -6,7 +6,7 @@ use Rattle.mbe_explain.specs.declared.rules.Explanation.{Explanation}
 use Rattle.call_messages.specs.declared.unfit.Unfit.{Unfit}
 use Rattle.call_messages.specs.declared.unfit.Unfit.TheVariants.{Fits, Unknown}
 
--- the place of the rule that comes furthest, where no rule fits; there is none if there are no rules
+-- the place of the rule that is nearest to a match, where none fits; none if there are no rules
 abbrev pub nearest_unfit : Explanation → Result ℕ Unfit
 nearest_unfit e =
     if list_any (λ s. s.fits) e.rules.items then Err Fits else ok_or e.nearest Unknown

@@ -84,8 +84,8 @@ pub fn known_at<'a>(
     }))
 }
 
-/// How the rules of its definition take the argument of a call: where each stops, and which comes
-/// furthest. The definition has no fault.
+/// How the rules of its definition take the argument of a call: where each stops, and which is
+/// nearest to a match. The definition has no fault.
 ///
 /// # Errors
 ///

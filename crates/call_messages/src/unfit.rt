@@ -48,7 +48,10 @@ fn note_title(
     let number = number_of(stop);
     let mut title = format!(in alloc; "note: rule {number} of `{name}`")?;
     if count > 1 {
-        title.push_str(", which comes furthest")?;
+        title.push_str(match stop.stop.kind {
+            StopKind::Unread => ", which comes furthest",
+            _ => ", after which rustc tries no other",
+        })?;
     }
     Ok(title)
 }
@@ -98,8 +101,7 @@ fn other_notes(
     Ok(notes)
 }
 
-// Where the rule that comes furthest has what it wants; if it wants the end alone, the name of the
-// definition.
+// Where the nearest rule has what it wants; if it wants the end alone, the name of the definition.
 fn wanted_ranges(
     alloc: Global,
     text: &str,
@@ -113,7 +115,7 @@ fn wanted_ranges(
     Ok(ranges)
 }
 
-// The section about the rule that comes furthest, with notes on the others.
+// The section about the nearest rule, with notes on the others.
 fn note_section<'a>(
     alloc: Global,
     source: Source<'a>,
@@ -166,8 +168,8 @@ fn one_fits(rules: &[RuleStop<'_>]) -> bool
     false
 }
 
-/// The place in `rules` of the rule that comes furthest, where none fits; or why there is no such
-/// rule: one fits, or there are no rules.
+/// The place in `rules` of the rule that is nearest to a match, where none fits; or why there is no
+/// such rule: one fits, or there are no rules.
 pub fn nearest_unfit(explained: &Explanation<'_>) -> Result<usize, Unfit>
     ensures { result ≡ nearest_unfit explained.now }
 {

@@ -25,9 +25,9 @@ module _ (grammar edition scope depth calls tokens diagnostics : ValueParser) wh
   program = record {
     top = program_shape;
     subs = in_crate (with_more json_rule (with_more layout_rule (on_text (codes "expand"))))
-        ∷ on_text (codes "explain")
+        ∷ with_more json_rule (on_text (codes "explain"))
         ∷ in_crate (with_more (diagnostics_rule diagnostics) (with_others (named (codes "lsp"))))
-        ∷ in_crate (on_text (codes "macros")) ∷ on_text (codes "replay")
+        ∷ in_crate (on_text (codes "macros")) ∷ with_more json_rule (on_text (codes "replay"))
         ∷ on_text (codes "view") ∷ [];
   }
 
@@ -90,6 +90,20 @@ module _ (grammar edition scope depth calls tokens diagnostics : ValueParser) wh
   as_printed : layout (codes "filgordd" ∷ codes "expand" ∷ codes "t" ∷ []) ≡ Some (Some (codes "false"), Some (codes "t"))
   unfolding clap_on_literals
   as_printed = refl
+
+  -- the subcommand, and whether JSON is asked for
+  abbrev as_json : List Text → Option (Text × Option Text)
+  as_json words = option_map {U = Text × Option Text} (λ p. (p.0, one_of (codes "json") p.1)) (subcommand_of program words)
+
+  -- `filgordd explain --json t`
+  explained : as_json (codes "filgordd" ∷ codes "explain" ∷ codes "--json" ∷ codes "t" ∷ []) ≡ Some (codes "explain", Some (codes "true"))
+  unfolding clap_on_literals
+  explained = refl
+
+  -- `filgordd replay --json`
+  replayed : as_json (codes "filgordd" ∷ codes "replay" ∷ codes "--json" ∷ []) ≡ Some (codes "replay", Some (codes "true"))
+  unfolding clap_on_literals
+  replayed = refl
 
   -- the root of a crate, and the files
   abbrev crate_words : List Text → Option (Option Text × (Option Text × Option (List Text)))

@@ -116,6 +116,12 @@ pub record IsTextSubcommand (name : Text) (shape : Shape) : Type 0 where
   pub is_base : TakesOthers name base
   pub shape_is : shape ≡ with_more file_rule base
 
+-- a subcommand on a text that answers as text or as JSON
+pub record IsJsonSubcommand (name : Text) (shape : Shape) : Type 0 where
+  pub base : Shape
+  pub is_base : IsTextSubcommand name base
+  pub shape_is : shape ≡ with_more json_rule base
+
 -- a subcommand that takes files of a crate, and other crates
 abbrev pub in_crate : Shape → Shape
 in_crate s = with_more crate_rule (with_more extern_rule s)
@@ -164,10 +170,10 @@ pub record IsProgram (app : App) : Type 0 where
   pub replay : Shape
   pub view : Shape
   pub is_expand : IsExpandSubcommand expand
-  pub is_explain : IsTextSubcommand (codes "explain") explain
+  pub is_explain : IsJsonSubcommand (codes "explain") explain
   pub is_lsp : IsServerSubcommand lsp
   pub is_macros : IsMacrosSubcommand macros
-  pub is_replay : IsTextSubcommand (codes "replay") replay
+  pub is_replay : IsJsonSubcommand (codes "replay") replay
   pub is_view : IsTextSubcommand (codes "view") view
   pub app_is : app ≡ record {
     top = program_shape;

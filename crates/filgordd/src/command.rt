@@ -5,7 +5,7 @@ ghost use Rattle.clap.specs.declared.builder.command.Command.TheViews.{out-Comma
 ghost use Rattle.clap.specs.declared.builder.value_parser.ValueParser.{ValueParser};
 ghost use Rattle.filgordd.specs.Commands.{ChoosesLanguage, IsExpandSubcommand, IsMacrosSubcommand};
 ghost use Rattle.filgordd.specs.Commands.{HasOptions, IsProgram, IsServerSubcommand};
-ghost use Rattle.filgordd.specs.Commands.{IsTextSubcommand, TakesOthers};
+ghost use Rattle.filgordd.specs.Commands.{IsJsonSubcommand, IsTextSubcommand, TakesOthers};
 ghost use Rattle.filgordd.specs.Commands.{bare_program, cfg_rule, crate_rule, extern_rule};
 ghost use Rattle.filgordd.specs.Commands.{file_rule, json_rule, layout_rule, library_rule};
 ghost use Rattle.filgordd.specs.Commands.{option_rule, with_rule};
@@ -171,8 +171,8 @@ fn json<'a>(alloc: Global) -> Arg<'a>
         .long("json")
         .action(ArgAction::SetTrue)
         .help(
-            "Prints a line of JSON: the expansion with the origins of its tokens, or why there is \
-            none",
+            "Prints lines of JSON in place of text: one for the expansion, for what explains the \
+            faults, or for each answer to a script",
         )
 }
 
@@ -271,6 +271,18 @@ fn text_subcommand<'a>(
     others_command(alloc, name, about)?.arg(file(alloc))
 }
 
+// A subcommand on a text that answers as text or as JSON.
+fn json_subcommand<'a>(
+    alloc: Global,
+    name: &'a str,
+    about: &'a str,
+) -> Result<Command<'a>, AllocError>
+    ensures shape { IfOk result (λ c. IsJsonSubcommand name.now (shape_of c)) }
+    ensures own { IfOk result (λ c. (fields_of c).has_globals ≡ false) }
+{
+    text_subcommand(alloc, name, about)?.arg(json(alloc))
+}
+
 // The subcommand that prints an expansion.
 fn expand_subcommand<'a>(alloc: Global) -> Result<Command<'a>, AllocError>
     ensures shape { IfOk result (λ c. IsExpandSubcommand (shape_of c)) }
@@ -331,9 +343,9 @@ pub(crate) fn program<'a>(alloc: Global) -> Result<Command<'a>, AllocError>
     let view = "Prints an HTML page of a text, its expansion and its faults";
     bare_program(alloc)?
         .subcommand(expand_subcommand(alloc)?)?
-        .subcommand(text_subcommand(alloc, "explain", explain)?)?
+        .subcommand(json_subcommand(alloc, "explain", explain)?)?
         .subcommand(server_subcommand(alloc)?)?
         .subcommand(macros_subcommand(alloc)?)?
-        .subcommand(text_subcommand(alloc, "replay", replay)?)?
+        .subcommand(json_subcommand(alloc, "replay", replay)?)?
         .subcommand(text_subcommand(alloc, "view", view)?)
 }

@@ -5,7 +5,7 @@ use crate::conditions::{cfg_of, under};
 use crate::crates::perform_crate;
 use crate::explain::explain;
 use crate::job::{Action, Job};
-use crate::json::expand_as_json;
+use crate::json::{Asked, answer_as_json};
 use crate::layout::expand_in_lines;
 use crate::place::{Place, named_place};
 use crate::server::serve_editor;
@@ -15,7 +15,7 @@ use any_grammar::AnyGrammar;
 use cfg_options::CfgOptions;
 use expander::{Options, Prelude, Status, Watched, run_after};
 use program_files::{Ended, Others, blank_front, misused, opened, others_of, read_whole, stopped};
-use replay_script::{Answered, End, answer_script, wrong_words};
+use replay_script::{Answered, End, Form, answer_script, wrong_words};
 use std::io;
 use std::io::{BufReader, Read};
 use std::process::ExitCode;
@@ -66,6 +66,10 @@ fn tell(
 ) -> io::Result<ExitCode> {
     let mut options = task.options;
     options.dialect.excuses = false;
+    if task.json {
+        let asked = Asked::Explanation(task.place);
+        return answer_as_json(rt, options, prelude, text, asked);
+    }
     match std::str::from_utf8(text) {
         Ok(text) => explain(rt, options, prelude, name, text, task.place),
         Err(_) => stopped(rt, "input is not UTF-8"),
@@ -93,12 +97,20 @@ fn replay<R: Read + Drop>(
     rt: &HostRuntime,
     options: Options<AnyGrammar>,
     prelude: Prelude,
+    form: Form,
     reader: R,
 ) -> io::Result<ExitCode> {
     let alloc = rt.alloc();
     let mut reader = BufReader::new(alloc, reader)?;
     let mut writer = Watched::new(rt.stdout());
-    let Answered { lines, end } = answer_script(alloc, &mut reader, &mut writer, options, prelude);
+    let Answered { lines, end } = answer_script(
+        alloc,
+        &mut reader,
+        &mut writer,
+        options,
+        prelude,
+        form,
+    );
     match end {
         End::Whole => Ok(ExitCode::SUCCESS),
         End::Wrong(wrong) => {
@@ -150,7 +162,7 @@ fn answer(
     } = task;
     match action {
         Action::View => show(rt, options, others, name, text),
-        _ if json => expand_as_json(rt, options, others.prelude, text),
+        _ if json => answer_as_json(rt, options, others.prelude, text, Asked::Expansion),
         _ if layout => expand_in_lines(rt, options, others.prelude, text),
         _ => Ok(expand(rt, options, others.prelude, text)),
     }
@@ -165,7 +177,8 @@ fn work_on<R: Read + Drop>(
     reader: R,
 ) -> io::Result<ExitCode> {
     if task.action == Action::Replay {
-        return replay(rt, task.options, others.prelude, reader);
+        let form = if task.json { Form::Json } else { Form::Text };
+        return replay(rt, task.options, others.prelude, form, reader);
     }
     match read_whole(rt.alloc(), reader) {
         Ok(mut text) => {

@@ -1,5 +1,5 @@
 -- What is told of the rules of a definition for a call. (Of this project.)
-use Rattle.std.specs.Prelude.{◌≡◌, ◌↔◌, ℕ, suc, Bool, true, List, [], ◌∷◌, length, nat_lt}
+use Rattle.std.specs.Prelude.{◌≡◌, ◌↔◌, ℕ, suc, Bool, true, false, List, [], ◌∷◌, length, nat_lt}
 use Rattle.std.specs.Prelude.{Option, Some, None, is_some, if◌then◌else◌}
 use Rattle.std.specs.List.{IsFirstBest, list_any}
 use Rattle.tt_data.specs.Forest.{Forest}
@@ -17,6 +17,7 @@ use Rattle.mbe_explain.specs.Distances.{span_before_end}
 use Rattle.mbe_explain.specs.Stops.{HasTwoReadings, IsFirstClash, IsUnreadAt, IsWantedAt, Wanted}
 use Rattle.mbe_explain.specs.Wants.{wants_of}
 use Rattle.mbe_explain.specs.declared.explain.Stop.{Stop}
+use Rattle.mbe_explain.specs.declared.explain.StopKind.{StopKind}
 use Rattle.mbe_explain.specs.declared.explain.StopKind.TheVariants.{Ambiguous, Matches}
 use Rattle.mbe_explain.specs.declared.explain.StopKind.TheVariants.{TwoReadings, Unread}
 use Rattle.mbe_explain.specs.declared.rules.RuleStop.{RuleStop}
@@ -71,11 +72,20 @@ abbrev pub first_fitting : List RuleStop → Option ℕ
 first_fitting [] = None
 first_fitting (s ∷ ss) = if s.fits then Some s.index else first_fitting ss
 
--- one comes further than another: fewer steps are left
-abbrev pub comes_further : RuleStop → RuleStop → Bool
-comes_further s t = nat_lt s.stop.left t.stop.left
+-- rustc tries no rule after one that stops so: it is read, or it may be read in two ways
+abbrev pub ends_search : StopKind → Bool
+ends_search Unread = false
+ends_search _ = true
 
--- the place in a list of the one that comes furthest, the first of equals; none if there is none
+-- how far a rule is from where rustc stops: nothing at such a rule, else the steps that are left
+abbrev pub distance : RuleStop → ℕ
+distance s = if ends_search s.stop.kind then 0 else suc s.stop.left
+
+-- one is nearer than another
+abbrev pub is_nearer : RuleStop → RuleStop → Bool
+is_nearer s t = nat_lt (distance s) (distance t)
+
+-- the place in a list of the one that is nearest, the first of equals; none if there is none
 abbrev pub IsNearest : List RuleStop → Option ℕ → Type 0
 IsNearest told None = told ≡ []
-IsNearest told (Some k) = IsFirstBest comes_further told (length told) k
+IsNearest told (Some k) = IsFirstBest is_nearer told (length told) k

@@ -13,7 +13,7 @@ ghost use Rattle.mbe_transcriber.specs.Markers.{is_name};
 ghost use Rattle.mbe_transcriber.specs.Room.{IsWantOfRoom};
 ghost use Rattle.mbe_explain.specs.Rules.{AreTold, HasTooMuch, IsNearest, IsRuleStop};
 ghost use Rattle.mbe_explain.specs.Rules.{OneHasTooMuch};
-ghost use Rattle.mbe_explain.specs.Rules.{comes_further, first_fitting, of_style};
+ghost use Rattle.mbe_explain.specs.Rules.{ends_search, first_fitting, is_nearer, of_style};
 
 use crate::explain::{Stop, StopKind, explain_pattern};
 use bumpalo::Bump;
@@ -38,8 +38,9 @@ pub struct RuleStop<'a> {
 pub struct Explanation<'a> {
     /// One for each rule of the style, in order.
     pub rules: Vec<RuleStop<'a>>,
-    /// Which of these comes furthest in the argument, by its place in `rules`: the first of equals.
-    /// `None` if no rule has the style.
+    /// Which of these is nearest to a match, by its place in `rules`: the first that does not stop
+    /// as `Unread`, since rustc tries no rule after it; if there is none, the one that comes furthest
+    /// in the argument, the first of equals. `None` if no rule has the style.
     pub nearest: Option<usize>,
 }
 
@@ -113,14 +114,27 @@ fn rule_stops<'a, G: FragmentGrammar>(
     Ok(told)
 }
 
-// Whether one rule comes further than another.
-fn comes_further(one: &RuleStop<'_>, other: &RuleStop<'_>) -> bool
-    ensures { result ≡ comes_further one.now other.now }
+// Whether rustc tries no rule after one that stops so.
+fn ends_search(kind: StopKind) -> bool
+    ensures { result ≡ ends_search kind }
 {
-    one.stop.left < other.stop.left
+    match kind {
+        StopKind::Unread => false,
+        StopKind::Matches | StopKind::Ambiguous | StopKind::TwoReadings => true,
+    }
 }
 
-// The place of the one that comes furthest, the first of equals.
+// Whether one rule is nearer to a match than another.
+fn is_nearer(one: &RuleStop<'_>, other: &RuleStop<'_>) -> bool
+    ensures { result ≡ is_nearer one.now other.now }
+{
+    if ends_search(other.stop.kind) {
+        return false;
+    }
+    ends_search(one.stop.kind) || one.stop.left < other.stop.left
+}
+
+// The place of the one that is nearest to a match, the first of equals.
 fn nearest(told: &[RuleStop<'_>]) -> Option<usize>
     ensures { IsNearest told.now result }
 {
@@ -129,7 +143,7 @@ fn nearest(told: &[RuleStop<'_>]) -> Option<usize>
     }
     let mut best = 0;
     for i in 1..told.len() {
-        if comes_further(&told[i], &told[best]) {
+        if is_nearer(&told[i], &told[best]) {
             best = i;
         }
     }
@@ -137,7 +151,7 @@ fn nearest(told: &[RuleStop<'_>]) -> Option<usize>
 }
 
 /// How the rules of a definition that have this style take the argument of a call: where and why
-/// the partial readings of each stop, and which of them comes furthest.
+/// the partial readings of each stop, and which of them is nearest to a match.
 ///
 /// The definition has no fault: `err()` is `None`.
 ///

@@ -34,10 +34,11 @@ const CALLS: &str = r##"
 (($a:ident) [$b:ident]) => {} ¦ (x) [] ¦ 1; 1 unread at 5..6 wants `$b:ident`
 "##;
 
-// A matcher with two readings, a rule that fits, one that cannot be filled, one of another style,
-// and a definition without rules.
+// A matcher with two readings, an ambiguous one before a rule that comes further, a rule that fits,
+// one that cannot be filled, one of another style, and a definition without rules.
 const OTHERS: &str = r##"
 ($(a)? $(a)?) => {} ¦ a ¦ 1; 1 two readings at the end wants `a`, the end
+($($h:ident)* $t:ident) => {}; (p $i:ident 1) => {} ¦ p q 2 ¦ 1; 1 ambiguous at 0..1 wants `$h:ident`, `$t:ident`; 2 unread at 4..5 wants `1`
 (a) => {}; ($x:tt) => {} ¦ b ¦ 2; 1 unread at 0..1 wants `a`; 2 matches at the end wants the end fits
 (b) => {}; ($($x:ident)*) => { $x } ¦ a ¦ 2; 1 unread at 0..1 wants `b`; 2 matches at the end wants `$x:ident`, the end
 derive() (a) => {}; (b) => {} ¦ a ¦ 1; 2 unread at 0..1 wants `b`

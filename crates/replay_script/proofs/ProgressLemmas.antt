@@ -1,5 +1,5 @@
 -- A line's turn is an answer, by where the script stands, and leaves the script where the answer says.
-use Rattle.std.proofs.Common.{◌≡◌, ℕ, ◌≤◌, ◌^◌, List, [], ◌∷◌, Option, Some, refl, ap, sym, subst, ◌∙◌}
+use Rattle.std.proofs.Common.{◌≡◌, ℕ, ◌<◌, ◌≤◌, ◌^◌, length, List, [], ◌∷◌, Option, Some, refl, ap, sym, subst, ◌∙◌}
 use Rattle.std.specs.Prelude.{Result, Ok, Err, if◌then◌else◌, nat_eq, option_and_then, option_map, string_bytes}
 use Rattle.bridge.specs.declared.reading.outcome.ReadFault.{ReadFault}
 use Rattle.tt_data.specs.Forest.{Forest}
@@ -21,7 +21,7 @@ use Rattle.expander_session.specs.declared.commands.Command.TheVariants.{Edit, E
 use Rattle.expander_session.specs.declared.session.Reply.{Reply}
 use Rattle.expander_session.specs.declared.session.Reply.TheVariants.{Read, Unread}
 use Rattle.expander_sources.specs.Sources.{Source}
-use Rattle.replay_script.specs.LineTurns.{LineTurn}
+use Rattle.replay_script.specs.LineTurns.{IsAnswerable, IsShort, LineTurn}
 use Rattle.replay_script.specs.Picks.{Picked, SourceTable, all_picked, picked_by, picked_of, prelude_of, with_source}
 use Rattle.replay_script.specs.Progress.{IsCommandAnswer, IsLineAnswer, IsPreludeTold, Progress, after, after_command, after_picks, after_source, given_to, looked_last, source_read, trees_last}
 use Rattle.replay_script.specs.Scripts.{indices_of}
@@ -241,7 +241,7 @@ goes_line layers old new had have at (asked.Command c) (told.Command a) r agree 
     let g = goes layers old new at c a r h.0 in
     record { answers = g.answers; remembers = g.remembers; agree = λ n. h.1 n ∙ agree n; is_set = g.is_set }
 goes_line layers old new had have at (asked.Command c) (told.Source m k) r agree h = absurd h
-goes_line layers old new had have at (asked.Command c) (told.Unread fault) r agree h = absurd h
+goes_line layers old new had have at (asked.Command c) (told.Unread number source fault) r agree h = absurd h
 goes_line layers old new had have at (asked.Command c) (told.Prelude count) r agree h = absurd h
 goes_line layers old new had have at (asked.Command c) told.BadPrelude r agree h = absurd h
 goes_line layers old new had have at (asked.Command c) (told.Refused refusal) r agree h = absurd h
@@ -254,7 +254,7 @@ goes_line layers old new had have at (asked.Source n home text) (told.Source m k
           (λ i. h.1.kept.2 i ∙ one_more_source had at.sources agree h.1.kept.0 i);
       is_set = (leaves_all old new h.0).is_set;
     }
-goes_line layers old new had have at (asked.Source n home text) (told.Unread fault) r agree h = record {
+goes_line layers old new had have at (asked.Source n home text) (told.Unread number source fault) r agree h = record {
   answers = h.1.is_answer;
   remembers = unchanged layers old.depth old new at r h.0;
   agree = λ i. h.1.kept i ∙ agree i;
@@ -301,4 +301,17 @@ goes_line layers old new had have at (asked.Prelude picks) (told.Refused Tokens)
 goes_line layers old new had have at (asked.Prelude picks) (told.Refused Numbers) r agree h = absurd h.0.is_answer
 goes_line layers old new had have at (asked.Prelude picks) (told.Command a) r agree h = absurd h.0.is_answer
 goes_line layers old new had have at (asked.Prelude picks) (told.Source m k) r agree h = absurd h.0.is_answer
-goes_line layers old new had have at (asked.Prelude picks) (told.Unread fault) r agree h = absurd h.0.is_answer
+goes_line layers old new had have at (asked.Prelude picks) (told.Unread number source fault) r agree h = absurd h.0.is_answer
+
+-- what cannot be read as a source is short enough
+pub short_turn : {G : Type 0} → (layers : Layers) (old new : State G) (had have : Sources) (line : Line) (answer : LineAnswer)
+    → IsAnswerable line → LineTurn layers old new had have line answer → IsShort answer
+short_turn layers old new had have line (told.Command a) can h = tt
+short_turn layers old new had have line (told.Source m k) can h = tt
+short_turn layers old new had have line (told.Prelude count) can h = tt
+short_turn layers old new had have line told.BadPrelude can h = tt
+short_turn layers old new had have line (told.Refused refusal) can h = tt
+short_turn layers old new had have (asked.Command c) (told.Unread number source fault) can h = absurd h
+short_turn layers old new had have (asked.Source n home text) (told.Unread number source fault) can h =
+    subst (λ (bytes : List ℕ). length bytes < 2 ^ 32) (sym h.1.is_answer.1.0) can.1
+short_turn layers old new had have (asked.Prelude picks) (told.Unread number source fault) can h = absurd h.0.is_answer

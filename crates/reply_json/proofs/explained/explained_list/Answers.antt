@@ -1,0 +1,13 @@
+use Rattle.serde_json.specs.View.{view}
+use Rattle.reply_json.specs.Explanations.{Explains}
+use Rattle.reply_json.proofs.ExplainedLemmas.{one_more}
+use Rattle.reply_json.proofs.explained.explained_list.Goals as goal
+
+pub loop-fault-preserved : goal.loop-fault-preserved
+loop-fault-preserved g c = record {
+  spot = c.spot_at-spot.ensures.spot;
+  all = one_more (Explains (g.G.FragmentGrammar.answer c.args.question.now.grammar.now) c.args.question.now.text.now)
+      c.args.faults.now c.loop-fault.fault-index c.fault-item.result c.loop-fault.list.items c.push.new.self.items c.in_ok-value.value
+      c.loop-fault-test.true c.fault-item.is c.loop-fault.invariant.all
+      (c.in_ok-found.found, c.in_ok-found.ensures, c.in_ok-value.ensures) c.push.ensures.items;
+}
