@@ -8,7 +8,7 @@ use Rattle.clap.specs.Walk.{Row, Text, all_of, first_of, one_of, rows_of}
 use Rattle.clap.specs.declared.builder.value_parser.ValueParser.{ValueParser}
 use Rattle.clap.specs.declared.parser.matches.Found.{Found}
 use Rattle.filgordd.specs.Choices.{action_name}
-use Rattle.filgordd.specs.Commands.{AsksBy, AsksFor, HasOptions, IsFile, IsFlag, IsJsonSubcommand, IsProgram, IsTextSubcommand, NamesDiagnostics, diagnostics_rule, file_rule, in_crate, json_rule, layout_rule, option_rule, program_shape, with_more, with_others}
+use Rattle.filgordd.specs.Commands.{AsksBy, AsksFor, HasOptions, IsFile, IsFlag, IsJsonSubcommand, IsProgram, IsTextSubcommand, NamesDiagnostics, diagnostics_rule, file_rule, in_crate, json_rule, layout_rule, option_rule, program_shape, steps_rule, with_more, with_others}
 use Rattle.filgordd.specs.declared.job.Action.{Action}
 use Rattle.filgordd.specs.declared.job.Diagnostics.{Diagnostics}
 use Rattle.filgordd.specs.declared.job.Job.{Job}
@@ -101,21 +101,26 @@ json_shape_is name shape h = h.shape_is ∙ ap (with_more json_rule) (text_shape
 -- the program is one of which clap says the matches
 pub is_simple_program : (app : App) → IsProgram app → is_simple app ≡ true
 is_simple_program app p =
-    let of_six : Shape → Shape → Shape → Shape → Shape → Shape → App = λ a b c d e f. record { top = program_shape; subs = a ∷ b ∷ c ∷ d ∷ e ∷ f ∷ [] } in
+    let of_all : Shape → Shape → Shape → Shape → Shape → Shape → Shape → App = λ a b c d e f g.
+        record { top = program_shape; subs = a ∷ b ∷ c ∷ d ∷ e ∷ f ∷ g ∷ [] } in
     let with_expand : Shape → Shape = λ s. in_crate (with_more json_rule (with_more layout_rule s)) in
     let with_sent : Shape → Shape = λ s. in_crate (with_more (diagnostics_rule p.is_lsp.diagnostics) s) in
+    let with_steps : Shape → Shape = with_more (steps_rule p.is_trace.steps) in
     let expand : Shape = with_expand (text_shape (codes "expand") p.is_expand.base p.is_expand.is_base) in
     let explain : Shape = json_shape (codes "explain") p.explain p.is_explain in
     let lsp : Shape = with_sent (with_others (shape_by (codes "lsp") p.is_lsp.is_base.base p.is_lsp.is_base.is_base)) in
     let macros : Shape = in_crate (text_shape (codes "macros") p.is_macros.base p.is_macros.is_base) in
     let replay : Shape = json_shape (codes "replay") p.replay p.is_replay in
+    let trace : Shape = with_steps (json_shape (codes "trace") p.is_trace.base p.is_trace.is_base) in
     ap is_simple (p.app_is
-    ∙ ap (λ (s : Shape). of_six s p.explain p.lsp p.macros p.replay p.view)
+    ∙ ap (λ (s : Shape). of_all s p.explain p.lsp p.macros p.replay p.trace p.view)
     (p.is_expand.shape_is ∙ ap with_expand (text_shape_is (codes "expand") p.is_expand.base p.is_expand.is_base))
-    ∙ ap (λ (s : Shape). of_six expand s p.lsp p.macros p.replay p.view) (json_shape_is (codes "explain") p.explain p.is_explain)
-    ∙ ap (λ (s : Shape). of_six expand explain s p.macros p.replay p.view)
+    ∙ ap (λ (s : Shape). of_all expand s p.lsp p.macros p.replay p.trace p.view) (json_shape_is (codes "explain") p.explain p.is_explain)
+    ∙ ap (λ (s : Shape). of_all expand explain s p.macros p.replay p.trace p.view)
     (p.is_lsp.shape_is ∙ ap with_sent (p.is_lsp.is_base.shape_is ∙ ap with_others p.is_lsp.is_base.is_base.shape_is))
-    ∙ ap (λ (s : Shape). of_six expand explain lsp s p.replay p.view)
+    ∙ ap (λ (s : Shape). of_all expand explain lsp s p.replay p.trace p.view)
     (p.is_macros.shape_is ∙ ap in_crate (text_shape_is (codes "macros") p.is_macros.base p.is_macros.is_base))
-    ∙ ap (λ (s : Shape). of_six expand explain lsp macros s p.view) (json_shape_is (codes "replay") p.replay p.is_replay)
-    ∙ ap (λ (s : Shape). of_six expand explain lsp macros replay s) (text_shape_is (codes "view") p.view p.is_view))
+    ∙ ap (λ (s : Shape). of_all expand explain lsp macros s p.trace p.view) (json_shape_is (codes "replay") p.replay p.is_replay)
+    ∙ ap (λ (s : Shape). of_all expand explain lsp macros replay s p.view)
+    (p.is_trace.shape_is ∙ ap with_steps (json_shape_is (codes "trace") p.is_trace.base p.is_trace.is_base))
+    ∙ ap (λ (s : Shape). of_all expand explain lsp macros replay trace s) (text_shape_is (codes "view") p.view p.is_view))

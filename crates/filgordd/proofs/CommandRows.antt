@@ -5,9 +5,9 @@ use Rattle.clap.proofs.OnLiterals.{clap_on_literals}
 use Rattle.clap.specs.Simple.{App, Shape, new_shape, subcommand_of}
 use Rattle.clap.specs.Walk.{Text, all_of, first_of, one_of}
 use Rattle.clap.specs.declared.builder.value_parser.ValueParser.{ValueParser}
-use Rattle.filgordd.specs.Commands.{diagnostics_rule, file_rule, in_crate, json_rule, layout_rule, option_rule, program_shape, with_more, with_others}
+use Rattle.filgordd.specs.Commands.{diagnostics_rule, file_rule, in_crate, json_rule, layout_rule, option_rule, program_shape, steps_rule, with_more, with_others}
 
-module _ (grammar edition scope depth calls tokens diagnostics : ValueParser) where
+module _ (grammar edition scope depth calls tokens diagnostics steps : ValueParser) where
   abbrev named : Text → Shape
   named name = record (new_shape name) {
     rules = option_rule (codes "grammar") (codes "rust") grammar
@@ -28,6 +28,7 @@ module _ (grammar edition scope depth calls tokens diagnostics : ValueParser) wh
         ∷ with_more json_rule (on_text (codes "explain"))
         ∷ in_crate (with_more (diagnostics_rule diagnostics) (with_others (named (codes "lsp"))))
         ∷ in_crate (on_text (codes "macros")) ∷ with_more json_rule (on_text (codes "replay"))
+        ∷ with_more (steps_rule steps) (with_more json_rule (on_text (codes "trace")))
         ∷ on_text (codes "view") ∷ [];
   }
 
@@ -104,6 +105,22 @@ module _ (grammar edition scope depth calls tokens diagnostics : ValueParser) wh
   replayed : as_json (codes "filgordd" ∷ codes "replay" ∷ codes "--json" ∷ []) ≡ Some (codes "replay", Some (codes "true"))
   unfolding clap_on_literals
   replayed = refl
+
+  -- how many steps are traced, and the file
+  abbrev traced : List Text → Option (Text × (Option Text × Option Text))
+  traced words = option_map {U = Text × (Option Text × Option Text)}
+      (λ p. (p.0, (first_of (codes "to") p.1, first_of (codes "file") p.1))) (subcommand_of program words)
+
+  -- `filgordd trace --to 5 t:3`
+  few_steps : traced (codes "filgordd" ∷ codes "trace" ∷ codes "--to" ∷ codes "5" ∷ codes "t:3" ∷ [])
+      ≡ Some (codes "trace", (Some (codes "5"), Some (codes "t:3")))
+  unfolding clap_on_literals
+  few_steps = refl
+
+  -- `filgordd trace`
+  all_steps : traced (codes "filgordd" ∷ codes "trace" ∷ []) ≡ Some (codes "trace", (Some (codes "10000"), None))
+  unfolding clap_on_literals
+  all_steps = refl
 
   -- the root of a crate, and the files
   abbrev crate_words : List Text → Option (Option Text × (Option Text × Option (List Text)))

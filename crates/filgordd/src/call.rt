@@ -15,8 +15,8 @@ use std::io;
 use std::process::ExitCode;
 use tt_data::TtFault;
 
-// Reports what is wrong at a byte of a text. The status is 1.
-fn told(rt: &HostRuntime, text: &str, at: u32, what: &str) -> io::Result<ExitCode>
+/// Reports what is wrong at a byte of a text. The status is 1.
+pub(crate) fn told(rt: &HostRuntime, text: &str, at: u32, what: &str) -> io::Result<ExitCode>
     requires { length text.now < 2 ^ 32 }
 {
     let mut line = String::new(rt.alloc());

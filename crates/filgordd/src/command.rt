@@ -5,10 +5,11 @@ ghost use Rattle.clap.specs.declared.builder.command.Command.TheViews.{out-Comma
 ghost use Rattle.clap.specs.declared.builder.value_parser.ValueParser.{ValueParser};
 ghost use Rattle.filgordd.specs.Commands.{ChoosesLanguage, IsExpandSubcommand, IsMacrosSubcommand};
 ghost use Rattle.filgordd.specs.Commands.{HasOptions, IsProgram, IsServerSubcommand};
-ghost use Rattle.filgordd.specs.Commands.{IsJsonSubcommand, IsTextSubcommand, TakesOthers};
+ghost use Rattle.filgordd.specs.Commands.{IsJsonSubcommand, IsTextSubcommand, IsTraceSubcommand};
+ghost use Rattle.filgordd.specs.Commands.{TakesOthers};
 ghost use Rattle.filgordd.specs.Commands.{bare_program, cfg_rule, crate_rule, extern_rule};
 ghost use Rattle.filgordd.specs.Commands.{file_rule, json_rule, layout_rule, library_rule};
-ghost use Rattle.filgordd.specs.Commands.{option_rule, with_rule};
+ghost use Rattle.filgordd.specs.Commands.{option_rule, steps_rule, with_rule};
 
 use clap::{Arg, ArgAction, Command, value_parser};
 use std::alloc::{AllocError, Global};
@@ -172,8 +173,20 @@ fn json<'a>(alloc: Global) -> Arg<'a>
         .action(ArgAction::SetTrue)
         .help(
             "Prints lines of JSON in place of text: one for the expansion, for what explains the \
-            faults, or for each answer to a script",
+            faults, for each step, or for each answer to a script",
         )
+}
+
+fn steps<'a>(alloc: Global) -> Arg<'a>
+    ensures rule { (p : ValueParser) × (rule_of result ≡ steps_rule p) }
+    ensures own { result.global ≡ false }
+{
+    Arg::new(alloc, "to")
+        .long("to")
+        .value_name("N")
+        .value_parser(value_parser!(u64))
+        .default_value("10000")
+        .help("How many steps are traced at most")
 }
 
 fn root<'a>(alloc: Global) -> Arg<'a>
@@ -307,6 +320,15 @@ fn macros_subcommand<'a>(alloc: Global) -> Result<Command<'a>, AllocError>
         .arg(root(alloc))
 }
 
+// The subcommand that shows the steps of calls.
+fn trace_subcommand<'a>(alloc: Global) -> Result<Command<'a>, AllocError>
+    ensures shape { IfOk result (λ c. IsTraceSubcommand (shape_of c)) }
+    ensures own { IfOk result (λ c. (fields_of c).has_globals ≡ false) }
+{
+    let about = "Shows the steps of calls: of FILE, FILE:LINE, or FILE:LINE:COLUMN for one call";
+    json_subcommand(alloc, "trace", about)?.arg(steps(alloc))
+}
+
 // The subcommand that serves an editor.
 fn server_subcommand<'a>(alloc: Global) -> Result<Command<'a>, AllocError>
     ensures shape { IfOk result (λ c. IsServerSubcommand (shape_of c)) }
@@ -347,5 +369,6 @@ pub(crate) fn program<'a>(alloc: Global) -> Result<Command<'a>, AllocError>
         .subcommand(server_subcommand(alloc)?)?
         .subcommand(macros_subcommand(alloc)?)?
         .subcommand(json_subcommand(alloc, "replay", replay)?)?
+        .subcommand(trace_subcommand(alloc)?)?
         .subcommand(text_subcommand(alloc, "view", view)?)
 }

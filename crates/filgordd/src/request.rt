@@ -100,6 +100,7 @@ fn job_of<'a>(
         files: words_of(alloc, matches, "file")?,
         externs: words_of(alloc, matches, "extern")?,
         root: matches.get_str("crate"),
+        steps: matches.get_str("to"),
     }))
 }
 

@@ -9,6 +9,7 @@ use crate::json::{Asked, answer_as_json};
 use crate::layout::expand_in_lines;
 use crate::place::{Place, named_place};
 use crate::server::serve_editor;
+use crate::trace::{Steps, most_steps, trace};
 use crate::view::view;
 use crate::warnings::warn;
 use any_grammar::AnyGrammar;
@@ -133,9 +134,44 @@ struct Task {
     layout: bool,
     // Whether the reply is told as JSON.
     json: bool,
-    // The place of the call that is expanded, or of the faults that are explained. Without one all
-    // are.
+    // The place of the call that is expanded, of those that are traced, or of the faults that are
+    // explained. Without one all are.
     place: Option<Place>,
+    // How many steps are traced at most.
+    steps: usize,
+}
+
+// Shows a text or its expansion. `name` is its file's.
+fn reply(
+    rt: &HostRuntime,
+    task: Task,
+    others: Others,
+    name: &str,
+    text: &[u8],
+) -> io::Result<ExitCode> {
+    let Task {
+        action,
+        options,
+        layout,
+        json,
+        ..
+    } = task;
+    match action {
+        Action::View => show(rt, options, others, name, text),
+        _ if json => answer_as_json(rt, options, others.prelude, text, Asked::Expansion),
+        _ if layout => expand_in_lines(rt, options, others.prelude, text),
+        _ => Ok(expand(rt, options, others.prelude, text)),
+    }
+}
+
+// Which steps a task asks for of a text. `file` is its file's name.
+fn steps_of<'a>(task: &Task, file: &'a str) -> Steps<'a> {
+    Steps {
+        file,
+        place: task.place,
+        most: task.steps,
+        json: task.json,
+    }
 }
 
 // Does a task on a whole text, in which what is no code is blank. `name` is its file's.
@@ -150,21 +186,12 @@ fn answer(
     if task.action == Action::Explain {
         return tell(rt, task, others.prelude, name, text);
     }
-    if let Some(place) = task.place {
-        return expand_at(rt, task, &others.prelude, text, place);
+    if task.action == Action::Trace {
+        return trace(rt, &task.options, &others, &steps_of(&task, name), text);
     }
-    let Task {
-        action,
-        options,
-        layout,
-        json,
-        ..
-    } = task;
-    match action {
-        Action::View => show(rt, options, others, name, text),
-        _ if json => answer_as_json(rt, options, others.prelude, text, Asked::Expansion),
-        _ if layout => expand_in_lines(rt, options, others.prelude, text),
-        _ => Ok(expand(rt, options, others.prelude, text)),
+    match task.place {
+        Some(place) => expand_at(rt, task, &others.prelude, text, place),
+        None => reply(rt, task, others, name, text),
     }
 }
 
@@ -202,6 +229,7 @@ fn work(
         layout,
         json,
         file,
+        steps,
         ..
     } = job;
     let (file, place) = named_place(action, file);
@@ -211,6 +239,7 @@ fn work(
         layout,
         json,
         place,
+        steps: most_steps(steps),
     };
     match file {
         None => work_on(rt, task, others, "standard input", rt.stdin()),

@@ -1,9 +1,9 @@
 //! Texts, and the lines of JSON that tell of the steps of their calls.
-use crate::traces::{ALL, names_of, prelude_of, traces_of};
+use crate::traces::{ALL, expect, told};
 use expander_trace::limits::Limits;
 use std::alloc::Global;
 use std::test::Fail;
-use step_report::{Texts, push_json};
+use step_report::{Asked, Form, Question};
 use tt_data::TtFault;
 
 const OTHER: &str = "macro_rules! pair { ($a:tt) => { one!($a) } }";
@@ -24,40 +24,29 @@ const CUT_TOLD: &str =
 "##;
 
 // The lines for the calls of a text.
-fn told(alloc: Global, text: &str, limits: Limits) -> Result<String, TtFault> {
-    let prelude = prelude_of(alloc, OTHER)?;
-    let Some(traces) = traces_of(alloc, text, &prelude, None, limits)? else {
-        return Ok(String::from_str(alloc, "unread")?);
-    };
-    let names = names_of(alloc)?;
-    let texts = Texts::of(alloc, "calls.rs", text, &names)?;
-    let mut out = String::new(alloc);
-    push_json(alloc, &mut out, &texts, None, &traces)?;
-    Ok(out)
-}
-
-// Fails with a text if that is not what is expected.
-fn expect(got: &str, want: &str) -> Result<(), Fail> {
-    if got == want {
-        return Ok(());
-    }
-    Err(Fail::new(got))
+fn lines(alloc: Global, text: &str, limits: Limits) -> Result<String, TtFault> {
+    let asked = Asked::All;
+    let form = Form::Json;
+    let (text, _) = told(alloc, OTHER, text, Question { asked, limits, form })?;
+    Ok(text)
 }
 
 #[test]
 fn steps_as_json(rt: HostRuntime) -> Result<(), Fail> {
-    let lines = told(rt.alloc(), TEXT, ALL)?;
-    expect(lines.as_str(), TOLD)?;
-    let lines = told(rt.alloc(), TEXT, Limits { steps: 0, ..ALL })?;
-    expect(lines.as_str(), CUT_TOLD)
+    let text = lines(rt.alloc(), TEXT, ALL)?;
+    expect(text.as_str(), TOLD)?;
+    let text = lines(rt.alloc(), TEXT, Limits { steps: 0, ..ALL })?;
+    expect(text.as_str(), CUT_TOLD)?;
+    let text = lines(rt.alloc(), "a!(", ALL)?;
+    expect(text.as_str(), "unread")
 }
 
 // Lines that are refused memory are the same when they are made again.
 #[test]
 fn refused_json(rt: HostRuntime) -> Result<(), Fail> {
-    let lines = match told(rt.alloc(), TEXT, ALL) {
-        Ok(lines) => lines,
-        Err(_) => told(rt.alloc(), TEXT, ALL)?,
+    let text = match lines(rt.alloc(), TEXT, ALL) {
+        Ok(text) => text,
+        Err(_) => lines(rt.alloc(), TEXT, ALL)?,
     };
-    expect(lines.as_str(), TOLD)
+    expect(text.as_str(), TOLD)
 }

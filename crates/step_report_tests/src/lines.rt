@@ -1,9 +1,9 @@
 //! Texts, and the lines that tell of the steps of their calls.
-use crate::traces::{ALL, names_of, prelude_of, traces_of};
+use crate::traces::{ALL, expect, told};
 use expander_trace::limits::Limits;
 use std::alloc::Global;
 use std::test::Fail;
-use step_report::{Texts, push_text};
+use step_report::{Asked, Form, Question};
 use tt_data::{TextRange, TtFault};
 
 const OTHER: &str = "macro_rules! pair { ($a:tt) => { ($a, $a) } }";
@@ -67,67 +67,70 @@ const LONG_TOLD: &str = r##"calls.rs:2:1: drop!
 cut: what comes next may define macros, and is not traced
 "##;
 
-// The lines for the calls of a text that are asked for.
-fn told(
+const CUT_BEFORE: &str = "cut: there are more steps than are asked for\n";
+
+// The lines for the calls of a text that are asked for, and whether one stays for a fault.
+fn lines(
     alloc: Global,
     text: &str,
-    at: Option<u32>,
-    asked: Option<TextRange>,
+    asked: Asked,
     limits: Limits,
-) -> Result<String, TtFault> {
-    let prelude = prelude_of(alloc, OTHER)?;
-    let Some(traces) = traces_of(alloc, text, &prelude, at, limits)? else {
-        return Ok(String::from_str(alloc, "unread")?);
-    };
-    let names = names_of(alloc)?;
-    let texts = Texts::of(alloc, "calls.rs", text, &names)?;
-    let mut out = String::new(alloc);
-    push_text(alloc, &mut out, &texts, asked, &traces)?;
-    Ok(out)
-}
-
-// Fails with a text if that is not what is expected.
-fn expect(got: &str, want: &str) -> Result<(), Fail> {
-    if got == want {
-        return Ok(());
-    }
-    Err(Fail::new(got))
+) -> Result<(String, bool), TtFault> {
+    let form = Form::Text;
+    told(alloc, OTHER, text, Question { asked, limits, form })
 }
 
 #[test]
 fn all_calls(rt: HostRuntime) -> Result<(), Fail> {
-    let lines = told(rt.alloc(), TEXT, None, None, ALL)?;
-    expect(lines.as_str(), ALL_TOLD)
+    let (text, stays) = lines(rt.alloc(), TEXT, Asked::All, ALL)?;
+    expect(text.as_str(), ALL_TOLD)?;
+    assert!(rt; stays);
+    Ok(())
 }
 
 #[test]
 fn calls_at_a_byte_and_on_a_line(rt: HostRuntime) -> Result<(), Fail> {
     let at = TEXT.find("pair").unwrap_or(0) as u32;
-    let lines = told(rt.alloc(), TEXT, Some(at), None, ALL)?;
-    expect(lines.as_str(), PAIR_TOLD)?;
+    let (text, stays) = lines(rt.alloc(), TEXT, Asked::At(at), ALL)?;
+    expect(text.as_str(), PAIR_TOLD)?;
+    assert!(rt; !stays);
     let range = TextRange {
         start: at,
         end: at + 5,
     };
-    let lines = told(rt.alloc(), TEXT, None, Some(range), ALL)?;
-    expect(lines.as_str(), PAIR_TOLD)
+    let (text, stays) = lines(rt.alloc(), TEXT, Asked::In(range), ALL)?;
+    assert!(rt; !stays);
+    expect(text.as_str(), PAIR_TOLD)
 }
 
 #[test]
 fn cut_traces(rt: HostRuntime) -> Result<(), Fail> {
     let limits = Limits { steps: 2, ..ALL };
-    let lines = told(rt.alloc(), TEXT, None, None, limits)?;
-    expect(lines.as_str(), CUT_TOLD)?;
-    let lines = told(rt.alloc(), LONG, None, None, ALL)?;
-    expect(lines.as_str(), LONG_TOLD)
+    let (text, _) = lines(rt.alloc(), TEXT, Asked::All, limits)?;
+    expect(text.as_str(), CUT_TOLD)?;
+    let (text, _) = lines(rt.alloc(), LONG, Asked::All, ALL)?;
+    expect(text.as_str(), LONG_TOLD)
+}
+
+// A limit that is passed before the calls that are asked for is told, and no other cut.
+#[test]
+fn cuts_of_other_calls(rt: HostRuntime) -> Result<(), Fail> {
+    let limits = Limits { steps: 2, ..ALL };
+    let end = TEXT.len() as u32;
+    let range = TextRange { start: end, end };
+    let (text, _) = lines(rt.alloc(), TEXT, Asked::In(range), limits)?;
+    expect(text.as_str(), CUT_BEFORE)?;
+    let range = TextRange { start: 0, end: 1 };
+    let (text, _) = lines(rt.alloc(), LONG, Asked::In(range), ALL)?;
+    expect(text.as_str(), "")
 }
 
 // Lines that are refused memory are the same when they are made again.
 #[test]
 fn refused_lines(rt: HostRuntime) -> Result<(), Fail> {
-    let lines = match told(rt.alloc(), TEXT, None, None, ALL) {
+    let (text, _) = match lines(rt.alloc(), TEXT, Asked::All, ALL) {
         Ok(lines) => lines,
-        Err(_) => told(rt.alloc(), TEXT, None, None, ALL)?,
+        Err(_) => lines(rt.alloc(), TEXT, Asked::All, ALL)?,
     };
-    expect(lines.as_str(), ALL_TOLD)
+    expect(text.as_str(), ALL_TOLD)
 }

@@ -1,13 +1,13 @@
-//! Traces of texts.
+//! What is told of the calls of texts.
 use call_expansion::text_call::CallOptions;
 use expander_model::dialect::Dialect;
 use expander_sources::prelude::Prelude;
 use expander_sources::source::{Source, SourceRead};
 use expander_trace::limits::Limits;
-use expander_trace::step::Trace;
-use expander_trace::text_trace::{Found, trace_in_text};
 use rust_grammar::RustGrammar;
 use std::alloc::{AllocError, Global};
+use std::test::Fail;
+use step_report::{Answer, Question, Texts, answer};
 use tt_data::{Edition, TtFault};
 
 /// What is traced where nothing limits it.
@@ -16,8 +16,8 @@ pub(crate) const ALL: Limits = Limits {
     tokens: 1000000,
 };
 
-/// The definitions of a short text, as source 1.
-pub(crate) fn prelude_of(alloc: Global, text: &str) -> Result<Prelude, TtFault> {
+// The definitions of a short text, as source 1.
+fn prelude_of(alloc: Global, text: &str) -> Result<Prelude, TtFault> {
     let mut prelude = Prelude::new(alloc);
     if text.len() > 1000000 {
         return Ok(prelude);
@@ -31,25 +31,25 @@ pub(crate) fn prelude_of(alloc: Global, text: &str) -> Result<Prelude, TtFault> 
     Ok(prelude)
 }
 
-/// The names of the other texts.
-pub(crate) fn names_of(alloc: Global) -> Result<Vec<String>, AllocError> {
+// The names of the other texts.
+fn names_of(alloc: Global) -> Result<Vec<String>, AllocError> {
     let mut names = Vec::new(alloc);
     names.push(String::from_str(alloc, "other.rs")?)?;
     Ok(names)
 }
 
-/// The traces of a short text after a prelude: of all its calls, or of those at a byte. `None` if
-/// it cannot be read.
-pub(crate) fn traces_of(
+/// What is told of a short text after the definitions of another: its lines, and whether a call
+/// stays for a fault. `unread` if it cannot be read.
+pub(crate) fn told(
     alloc: Global,
+    other: &str,
     text: &str,
-    prelude: &Prelude,
-    at: Option<u32>,
-    limits: Limits,
-) -> Result<Option<Vec<Trace>>, TtFault> {
+    question: Question,
+) -> Result<(String, bool), TtFault> {
     if text.len() > 1000000 {
-        return Ok(None);
+        return Ok((String::from_str(alloc, "too long")?, true));
     }
+    let prelude = prelude_of(alloc, other)?;
     let edition = Edition::Edition2024;
     let grammar = RustGrammar::new(edition);
     let by = CallOptions {
@@ -58,8 +58,18 @@ pub(crate) fn traces_of(
         dialect: &Dialect::rust(),
         depth: 128,
     };
-    match trace_in_text(alloc, text, &by, prelude, at, limits)? {
-        Found::Traces(traces) => Ok(Some(traces)),
-        Found::Unread(_) => Ok(None),
+    let names = names_of(alloc)?;
+    let texts = Texts::of(alloc, "calls.rs", text, &names)?;
+    match answer(alloc, &texts, &by, &prelude, question)? {
+        Answer::Told(lines) => Ok((lines.text, lines.stays)),
+        Answer::Unread(_) => Ok((String::from_str(alloc, "unread")?, true)),
     }
+}
+
+/// Fails with a text if that is not what is expected.
+pub(crate) fn expect(got: &str, want: &str) -> Result<(), Fail> {
+    if got == want {
+        return Ok(());
+    }
+    Err(Fail::new(got))
 }

@@ -20,4 +20,5 @@ returns-clause-words c = record {
   has_files = c.in_ok-words_of-3.ensures;
   has_externs = c.in_ok-words_of-4.ensures;
   has_root = option_is (λ s. s.now) (found_of c.args.matches.now) (codes "crate") c.get_str-4.result c.get_str-4.ensures;
+  has_steps = option_is (λ s. s.now) (found_of c.args.matches.now) (codes "to") c.get_str-5.result c.get_str-5.ensures;
 }
