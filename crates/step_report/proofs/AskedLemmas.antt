@@ -1,13 +1,15 @@
 -- Steps that are told of one after another, where those that are asked for are.
-use Rattle.std.proofs.Common.{◌≡◌, ℕ, ◌+◌, ◌<◌, ◌∙◌, Bool, true, false, List, [], ◌∷◌, ◌++◌, length, drop, get_or, map, flat_map, append_assoc, refl, ap, sym}
-use Rattle.std.proofs.lemmas.List.{drop_more}
-use Rattle.std.specs.Prelude.{Option, if◌then◌else◌}
+use Rattle.std.proofs.Common.{◌≡◌, ℕ, ◌+◌, ◌<◌, ◌≤◌, ◌∙◌, Bool, true, false, List, [], ◌∷◌, ◌++◌, length, drop, get_or, map, flat_map, append_assoc, refl, ap, sym}
+use Rattle.std.proofs.lemmas.List.{drop_all, drop_more}
+use Rattle.std.specs.List.{list_any}
+use Rattle.std.specs.Prelude.{◌||◌, ◌&&◌, Option, if◌then◌else◌}
 use Rattle.tt_data.specs.Forest.{Forest}
 use Rattle.tt_data.specs.declared.span.TextRange.{TextRange}
 use Rattle.expander_trace.specs.Steps.{Step}
 use Rattle.step_report.specs.Asked.{asked_steps, ends_asked, is_asked}
 use Rattle.step_report.specs.Json.{State, index_behind, lines_if, state_if, step_lines}
 use Rattle.step_report.specs.Texts.{Named}
+use Rattle.step_report.proofs.ListLemmas.{all_told}
 
 -- the lines of one step, if it is asked for, and those behind it
 told_if : (F : Step Forest → List ℕ) (b : Bool) (s : Step Forest) (rest : List (Step Forest))
@@ -28,6 +30,20 @@ counted_if : (n : State) (b : Bool) (s : Step Forest) (rest : List (Step Forest)
     ≡ index_behind (state_if b n s).next rest
 counted_if n true s rest = refl
 counted_if n false s rest = refl
+
+-- one of them does
+any_if : (h : Step Forest → Bool) (b : Bool) (s : Step Forest) (rest : List (Step Forest))
+    → list_any h ((if b then s ∷ [] else []) ++ rest) ≡ ((b && h s) || list_any h rest)
+any_if h true s rest = refl
+any_if h false s rest = refl
+
+or_apart : (a b c : Bool) → ((a || b) || c) ≡ (a || (b || c))
+or_apart true b c = refl
+or_apart false b c = refl
+
+or_none : (a : Bool) → a ≡ (a || false)
+or_none true = refl
+or_none false = refl
 
 module _ {S : Type 0} (told : S → Step Forest) (asked : Option TextRange)
     (xs : List S) (i : ℕ) (x : S) (on b : Bool)
@@ -89,3 +105,49 @@ module _ {S : Type 0} (told : S → Step Forest) (asked : Option TextRange)
       ∙ sym (counted_if n b (told x) rest)
       ∙ ap (λ (ss : List (Step Forest)). index_behind n.next ss) (sym left_if)
       ∙ so_far
+
+  -- one more may stay for a fault
+  pub one_more_any : (h : Step Forest → Bool) (found new total : Bool)
+      → (found || list_any h (asked_steps asked on (map told (drop i xs)))) ≡ total
+      → new ≡ (found || (b && h (told x)))
+      → (new || list_any h (asked_steps asked b (map told (drop (i + 1) xs)))) ≡ total
+  one_more_any h found new total so_far is_new =
+      let rest = asked_steps asked b (map told (drop (i + 1) xs)) in
+      ap (λ (c : Bool). c || list_any h rest) is_new
+      ∙ or_apart found (b && h (told x)) (list_any h rest)
+      ∙ ap (λ (c : Bool). found || c) (sym (any_if h b (told x) rest))
+      ∙ ap (λ (ss : List (Step Forest)). found || list_any h ss) (sym left_if)
+      ∙ so_far
+
+-- all are told of, and why there are no more
+pub all_steps : {S : Type 0} → (told : S → Step Forest) (asked : Option TextRange) (xs : List S)
+    (i : ℕ) (on : Bool) (G : List (Step Forest) → List ℕ) (K : Bool → List ℕ)
+    (out initial total : List ℕ) (ends : Bool) → length xs ≤ i → G [] ≡ []
+    → out ++ G (asked_steps asked on (map told (drop i xs))) ≡ initial ++ total
+    → ends_asked asked on (map told (drop i xs)) ≡ ends
+    → out ++ K on ≡ initial ++ (total ++ K ends)
+all_steps {S} told asked xs i on G K out initial total ends past none so_far last =
+    let left = drop_all i xs past in
+    ap (λ (o : List ℕ). o ++ K on)
+    (all_told (λ (ys : List S). G (asked_steps asked on (map told ys))) xs i out (initial ++ total)
+    past none so_far)
+    ∙ append_assoc initial total (K on)
+    ∙ ap (λ (b : Bool). initial ++ (total ++ K b))
+    (ap (λ (ys : List S). ends_asked asked on (map told ys)) (sym left) ∙ last)
+
+-- all are counted
+pub all_counted : {S : Type 0} → (told : S → Step Forest) (asked : Option TextRange) (xs : List S)
+    (i : ℕ) (on : Bool) (next total : ℕ) → length xs ≤ i
+    → index_behind next (asked_steps asked on (map told (drop i xs))) ≡ total → next ≡ total
+all_counted {S} told asked xs i on next total past so_far =
+    ap (λ (ys : List S). index_behind next (asked_steps asked on (map told ys)))
+    (sym (drop_all i xs past)) ∙ so_far
+
+-- all are passed
+pub all_any : {S : Type 0} → (told : S → Step Forest) (asked : Option TextRange) (xs : List S)
+    (i : ℕ) (on : Bool) (h : Step Forest → Bool) (found total : Bool) → length xs ≤ i
+    → (found || list_any h (asked_steps asked on (map told (drop i xs)))) ≡ total → found ≡ total
+all_any {S} told asked xs i on h found total past so_far =
+    or_none found
+    ∙ ap (λ (ys : List S). found || list_any h (asked_steps asked on (map told ys)))
+    (sym (drop_all i xs past)) ∙ so_far

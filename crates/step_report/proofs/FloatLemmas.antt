@@ -90,3 +90,9 @@ step_has_no_float t index parent s =
       no_float_stays s.attempt,
       no_float_call s.attempt,
     ) refl
+
+pub cut_has_no_float : (cut : Cut) → has_float (cut_of cut) ≡ false
+cut_has_no_float cut = refl
+
+pub end_has_no_float : (steps : ℕ) (cut : Bool) → has_float (end_of steps cut) ≡ false
+end_has_no_float steps cut = refl

@@ -1,4 +1,6 @@
 -- lemmas by subject
+mod AnswerLemmas
 mod AskedLemmas
 mod FloatLemmas
 mod ListLemmas
+mod TraceLemmas

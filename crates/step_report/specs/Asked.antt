@@ -4,6 +4,8 @@ use Rattle.std.specs.Prelude.{if◌then◌else◌, nat_le, Option, Some, None}
 use Rattle.tt_data.specs.declared.span.Span.{Span}
 use Rattle.tt_data.specs.declared.span.TextRange.{TextRange}
 use Rattle.expander_trace.specs.Steps.{Step}
+use Rattle.expander_trace.specs.declared.limits.Cut.{Cut}
+use Rattle.expander_trace.specs.declared.limits.Cut.TheVariants.{Definitions}
 
 -- a name begins within a range, or at its end
 abbrev pub begins_in : Option TextRange → Span → Bool
@@ -29,3 +31,9 @@ asked_steps asked last (s ∷ ss) =
 abbrev pub ends_asked : {D : Type 0} → Option TextRange → Bool → List (Step D) → Bool
 ends_asked asked last [] = last
 ends_asked asked last (s ∷ ss) = ends_asked asked (is_asked asked last s) ss
+
+-- it is told why there are no more: always where a limit is passed, and else behind a step that is
+-- told of
+abbrev pub is_cut_told : Bool → Cut → Bool
+is_cut_told last Definitions = last
+is_cut_told last _ = true

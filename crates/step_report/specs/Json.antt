@@ -1,7 +1,8 @@
 -- Lines of JSON that tell of steps: each is the compact JSON of a value. (RFC 8259; of this
 -- project: the members.)
-use Rattle.std.specs.Prelude.{ℕ, zero, suc, ◌+◌, ◌-◌, ◌^◌, List, [], ◌∷◌, ◌++◌, Bool, false, ◌||◌}
-use Rattle.std.specs.Prelude.{Option, Some, None, codes, if◌then◌else◌, is_some, min, not, slice_get, take}
+use Rattle.std.specs.Prelude.{ℕ, ◌+◌, ◌-◌, ◌^◌, List, [], ◌∷◌, ◌++◌, Bool, false, ◌||◌}
+use Rattle.std.specs.Prelude.{Option, Some, None, codes, if◌then◌else◌, is_some, min, nat_eq, not}
+use Rattle.std.specs.Prelude.{slice_get, take}
 use Rattle.tt_data.specs.Forest.{Forest}
 use Rattle.tt_data.specs.declared.span.TextRange.{TextRange}
 use Rattle.serde_json.specs.Data.{Data, boolean, string, object, member, no_members}
@@ -11,7 +12,7 @@ use Rattle.expander_trace.specs.Parts.{Part}
 use Rattle.expander_trace.specs.Steps.{Step}
 use Rattle.expander_trace.specs.declared.limits.Cut.{Cut}
 use Rattle.expander_trace.specs.declared.limits.Cut.TheVariants as cuts
-use Rattle.step_report.specs.Asked.{asked_steps, ends_asked}
+use Rattle.step_report.specs.Asked.{asked_steps, ends_asked, is_cut_told}
 use Rattle.step_report.specs.Lines.{cut_words}
 use Rattle.step_report.specs.Texts.{Named}
 use Rattle.step_report.specs.Values.{step}
@@ -35,8 +36,7 @@ next_index index = min (index + 1) (2 ^ 64 - 1)
 
 -- the step in whose result one of this level is
 abbrev pub parent_of : List ℕ → ℕ → Option ℕ
-parent_of around zero = None
-parent_of around (suc level) = slice_get around level
+parent_of around level = if nat_eq level 0 then None else slice_get around (level - 1)
 
 -- the steps that one of this level is in, and itself
 abbrev pub entered : List ℕ → ℕ → ℕ → List ℕ
@@ -72,16 +72,16 @@ cut_of cut =
     (member (codes "message") (string (cut_words cut))
     (member (codes "v") (count 1) no_members))))
 
-abbrev pub cut_line : Option Cut → List ℕ
-cut_line None = []
-cut_line (Some cut) = line (cut_of cut)
+abbrev pub cut_if : Bool → Option Cut → List ℕ
+cut_if last None = []
+cut_if last (Some cut) = if is_cut_told last cut then line (cut_of cut) else []
 
 -- the lines of the steps that are asked for, the first with this index, and why there are no more
 abbrev pub trace_lines : Named → Option TextRange → ℕ → Part Forest → List ℕ
 trace_lines t asked first p =
     step_lines t (record { next = first; around = [] })
     (asked_steps asked (not (is_some asked)) p.steps)
-    ++ (if ends_asked asked (not (is_some asked)) p.steps then cut_line p.room.cut else [])
+    ++ cut_if (ends_asked asked (not (is_some asked)) p.steps) p.room.cut
 
 -- the index behind a trace
 abbrev pub index_after : Option TextRange → ℕ → Part Forest → ℕ

@@ -8,5 +8,8 @@ pub mod Lines
 -- JSON that tells of them
 pub mod Values
 pub mod Json
+-- whether a call stays for a fault; what is told of a text
+pub mod Faults
+pub mod Answers
 -- what the functions inside the crate promise each other
 pub mod Spots

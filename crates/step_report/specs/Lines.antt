@@ -1,6 +1,6 @@
 -- Lines that tell of steps. (Of this project.)
-use Rattle.std.specs.Prelude.{ℕ, zero, suc, ◌+◌, ◌-◌, ◌*◌, List, [], ◌∷◌, ◌++◌, Option, Some, None}
-use Rattle.std.specs.Prelude.{Result, Ok, Err, chars, codes, decimal, flat_map, if◌then◌else◌}
+use Rattle.std.specs.Prelude.{ℕ, zero, suc, ◌+◌, ◌-◌, ◌*◌, Bool, List, [], ◌∷◌, ◌++◌}
+use Rattle.std.specs.Prelude.{Option, Some, None, Result, Ok, Err, chars, codes, decimal, flat_map, if◌then◌else◌}
 use Rattle.std.specs.Prelude.{is_some, length, max, min, not, replicate}
 use Rattle.tt_data.specs.Forest.{Forest}
 use Rattle.tt_data.specs.declared.span.TextRange.{TextRange}
@@ -10,7 +10,7 @@ use Rattle.expander_trace.specs.Parts.{Part}
 use Rattle.expander_trace.specs.Steps.{Attempt, Step}
 use Rattle.expander_trace.specs.declared.limits.Cut.{Cut}
 use Rattle.expander_trace.specs.declared.limits.Cut.TheVariants as cuts
-use Rattle.step_report.specs.Asked.{asked_steps, ends_asked}
+use Rattle.step_report.specs.Asked.{asked_steps, ends_asked, is_cut_told}
 use Rattle.step_report.specs.Places.{name_in, place}
 use Rattle.step_report.specs.Shown.{shown, shown_trees}
 use Rattle.step_report.specs.Texts.{Named}
@@ -96,12 +96,16 @@ cut_words cuts.Steps = codes "there are more steps than are asked for"
 cut_words cuts.Tokens = codes "the next call makes more tokens than are left"
 cut_words cuts.Definitions = codes "what comes next may define macros, and is not traced"
 
-abbrev pub cut_line : Option Cut → List ℕ
-cut_line None = []
-cut_line (Some cut) = codes "cut: " ++ (cut_words cut ++ (10 ∷ []))
+abbrev pub cut_line : Cut → List ℕ
+cut_line cut = codes "cut: " ++ (cut_words cut ++ (10 ∷ []))
+
+-- that, if it is told behind a last step that is told of or is not
+abbrev pub cut_if : Bool → Option Cut → List ℕ
+cut_if last None = []
+cut_if last (Some cut) = if is_cut_told last cut then cut_line cut else []
 
 -- the lines of the steps that are asked for, and why there are no more
 abbrev pub trace_lines : Named → Option TextRange → Part Forest → List ℕ
 trace_lines t asked p =
     flat_map (step_lines t) (asked_steps asked (not (is_some asked)) p.steps)
-    ++ (if ends_asked asked (not (is_some asked)) p.steps then cut_line p.room.cut else [])
+    ++ cut_if (ends_asked asked (not (is_some asked)) p.steps) p.room.cut

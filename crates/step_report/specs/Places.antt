@@ -1,5 +1,5 @@
 -- Where a definition or the name of a call is written. (Of this project.)
-use Rattle.std.specs.Prelude.{ℕ, zero, suc, List, [], ◌++◌, Option, Some, None, chars, codes, decimal}
+use Rattle.std.specs.Prelude.{ℕ, ◌-◌, List, [], ◌++◌, Option, Some, None, chars, codes, decimal}
 use Rattle.std.specs.Prelude.{if◌then◌else◌, nat_eq, slice_get}
 use Rattle.tt_data.specs.Forest.{Forest}
 use Rattle.tt_data.specs.declared.span.Span.{Span}
@@ -11,8 +11,7 @@ use Rattle.step_report.specs.declared.positions.Position.{Position}
 
 -- the name of another text, by its number, from 1, if it has one
 abbrev pub other_name : Named → ℕ → Option (List ℕ)
-other_name t zero = None
-other_name t (suc n) = slice_get t.others n
+other_name t number = if nat_eq number 0 then None else slice_get t.others (number - 1)
 
 abbrev pub other_words : Option (List ℕ) → List ℕ
 other_words None = codes "another text"

@@ -1,8 +1,9 @@
 //! Which steps are told of.
 ghost use Rattle.std.specs.Prelude.{◌≡◌};
 ghost use Rattle.expander_trace.specs.Given.{step_in};
-ghost use Rattle.step_report.specs.Asked.{is_asked};
+ghost use Rattle.step_report.specs.Asked.{is_asked, is_cut_told};
 
+use expander_trace::limits::Cut;
 use expander_trace::step::Step;
 use tt_data::TextRange;
 
@@ -18,5 +19,16 @@ pub(crate) fn is_asked(asked: Option<TextRange>, last: bool, step: &Step) -> boo
     match asked {
         None => true,
         Some(range) => range.start <= start && start <= range.end,
+    }
+}
+
+/// Whether it is told why there are no more steps: where a limit is passed, and else if `last`, the
+/// last step, is told of.
+pub(crate) fn is_cut_told(last: bool, cut: Cut) -> bool
+    ensures { result ≡ is_cut_told last cut }
+{
+    match cut {
+        Cut::Definitions => last,
+        Cut::Steps | Cut::Tokens => true,
     }
 }

@@ -1,16 +1,17 @@
 //! Lines of JSON that tell of steps.
-ghost use Rattle.std.specs.Prelude.{◌≡◌, IfOk, OnOk, is_some, map, not};
+ghost use Rattle.std.specs.Prelude.{◌≡◌, IfOk, OnOk, false, is_some, map, not};
 ghost use Rattle.serde_json.specs.View.{view};
+ghost use Rattle.serde_json.specs.Written.{has_float};
 ghost use Rattle.expander_trace.specs.Given.{step_in, trace_in};
 ghost use Rattle.step_report.specs.Asked.{asked_steps};
-ghost use Rattle.step_report.specs.Json.{cut_line, cut_name, cut_of, end_of, index_behind, json_lines};
+ghost use Rattle.step_report.specs.Json.{cut_if, cut_name, cut_of, end_of, index_behind, json_lines};
 ghost use Rattle.step_report.specs.Json.{line, lines_if, next_index, trace_lines, entered, parent_of, state_if};
 ghost use Rattle.step_report.specs.Json.{state_of};
 ghost use Rattle.step_report.specs.Shown.{Adds};
 ghost use Rattle.step_report.specs.Texts.{texts_in};
 ghost use Rattle.step_report.specs.Values.{step};
 
-use crate::asked::is_asked;
+use crate::asked::{is_asked, is_cut_told};
 use crate::lines::cut_words;
 use crate::texts::Texts;
 use crate::values::step;
@@ -32,8 +33,20 @@ fn next_index(index: usize) -> usize
 fn parent_of(around: &[usize], level: u8) -> Option<usize>
     ensures { result ≡ parent_of around.now level }
 {
-    let outer = (level as usize).checked_sub(1)?;
-    around.get(outer).copied()
+    if level == 0 {
+        return None;
+    }
+    around.get(level as usize - 1).copied()
+}
+
+// Adds the line of a value in which no number is a float.
+fn push_line(alloc: Global, out: &mut String, value: &Value) -> Result<(), AllocError>
+    requires { has_float (view value.now) ≡ false }
+    ensures { Adds result out.old out.new (line (view value.now)) }
+{
+    let text = value.to_string(alloc)?;
+    out.push_str(text.as_str())?;
+    out.push('\n')
 }
 
 // Adds the line of a step.
@@ -48,9 +61,8 @@ fn push_step(
     ensures { Adds result out.old out.new
         (line (step (texts_in texts.now) index parent (step_in it.now))) }
 {
-    let line = step(alloc, texts, index, parent, it)?.to_string(alloc)?;
-    out.push_str(line.as_str())?;
-    out.push('\n')
+    let value = step(alloc, texts, index, parent, it)?;
+    push_line(alloc, out, &value)
 }
 
 // A step that is told of, with its number among them, and those that it is in.
@@ -124,16 +136,24 @@ fn cut_value(alloc: Global, cut: Cut) -> Result<Value, AllocError>
     })
 }
 
-// Adds the line that tells why no more is traced, if no more is.
-fn push_cut(alloc: Global, out: &mut String, cut: Option<Cut>) -> Result<(), AllocError>
-    ensures { Adds result out.old out.new (cut_line cut) }
+// Adds the line that tells why no more is traced, if that is told. `last` says whether the last
+// step is told of.
+fn push_cut(
+    alloc: Global,
+    out: &mut String,
+    last: bool,
+    cut: Option<Cut>,
+) -> Result<(), AllocError>
+    ensures { Adds result out.old out.new (cut_if last cut) }
 {
     let Some(cut) = cut else {
         return Ok(());
     };
-    let line = cut_value(alloc, cut)?.to_string(alloc)?;
-    out.push_str(line.as_str())?;
-    out.push('\n')
+    if !is_cut_told(last, cut) {
+        return Ok(());
+    }
+    let value = cut_value(alloc, cut)?;
+    push_line(alloc, out, &value)
 }
 
 // Adds a line of JSON for each step of a trace that is asked for, the first with this index, and one
@@ -160,9 +180,7 @@ fn push_trace(
         on = is_asked(asked, on, step);
         push_asked(alloc, out, texts, &mut numbering, on, step)?;
     }
-    if on {
-        push_cut(alloc, out, trace.room.cut)?;
-    }
+    push_cut(alloc, out, on, trace.room.cut)?;
     Ok(numbering.next)
 }
 
@@ -182,9 +200,8 @@ fn end_value(alloc: Global, steps: usize, cut: bool) -> Result<Value, AllocError
 fn push_end(alloc: Global, out: &mut String, steps: usize, cut: bool) -> Result<(), AllocError>
     ensures { Adds result out.old out.new (line (end_of steps cut)) }
 {
-    let line = end_value(alloc, steps, cut)?.to_string(alloc)?;
-    out.push_str(line.as_str())?;
-    out.push('\n')
+    let value = end_value(alloc, steps, cut)?;
+    push_line(alloc, out, &value)
 }
 
 /// Adds a line of JSON for each step of traces, in order, one for why a trace is cut, and one that

@@ -1,13 +1,13 @@
 //! Lines that tell of steps.
 ghost use Rattle.std.specs.Prelude.{◌≡◌, [], if◌then◌else◌, IfOk, flat_map, map, string_bytes};
 ghost use Rattle.expander_trace.specs.Given.{attempt_in, given_in, step_in, trace_in};
-ghost use Rattle.step_report.specs.Lines.{below, beside, cut_line, cut_words, given_words, head};
+ghost use Rattle.step_report.specs.Lines.{beside, cut_if, cut_words, given_words, head};
 ghost use Rattle.step_report.specs.Lines.{indent, result_line, step_lines, stay_words, trace_lines};
 ghost use Rattle.step_report.specs.Lines.{attempt_lines, place_line, unknown_line, why_unknown};
 ghost use Rattle.step_report.specs.Shown.{Adds};
 ghost use Rattle.step_report.specs.Texts.{texts_in};
 
-use crate::asked::is_asked;
+use crate::asked::{is_asked, is_cut_told};
 use crate::places::{push_name, push_place};
 use crate::shown::{push_blanks, push_shown, push_tree};
 use crate::texts::Texts;
@@ -193,17 +193,18 @@ pub(crate) fn cut_words(cut: Cut) -> &'static str
     }
 }
 
-// Adds why no more is traced, if no more is.
-fn push_cut(out: &mut String, cut: Option<Cut>) -> Result<(), AllocError>
-    ensures { Adds result out.old out.new (cut_line cut) }
+// Adds why no more is traced, if that is told. `last` says whether the last step is told of.
+fn push_cut(out: &mut String, last: bool, cut: Option<Cut>) -> Result<(), AllocError>
+    ensures { Adds result out.old out.new (cut_if last cut) }
 {
-    match cut {
-        None => Ok(()),
-        Some(cut) => {
-            let why = cut_words(cut);
-            writeln!(out, "cut: {why}")
-        }
+    let Some(cut) = cut else {
+        return Ok(());
+    };
+    if !is_cut_told(last, cut) {
+        return Ok(());
     }
+    let why = cut_words(cut);
+    writeln!(out, "cut: {why}")
 }
 
 // Adds the lines of a step that is asked for.
@@ -239,11 +240,7 @@ fn push_trace(
         on = is_asked(asked, on, step);
         push_asked(alloc, out, texts, on, step)?;
     }
-    if on {
-        push_cut(out, trace.room.cut)
-    } else {
-        Ok(())
-    }
+    push_cut(out, on, trace.room.cut)
 }
 
 /// Adds the lines of traces, in order: for each step its call, the definition and the rule, and

@@ -15,8 +15,10 @@ use tt_data::Span;
 pub(crate) fn other_name<'a>(texts: &Texts<'a>, number: u32) -> Option<&'a str>
     ensures { option_map (λ s. s.now) result ≡ other_name (texts_in texts.now) number }
 {
-    let index = (number as usize).checked_sub(1)?;
-    let name = texts.others.get(index)?;
+    if number == 0 {
+        return None;
+    }
+    let name = texts.others.get(number as usize - 1)?;
     Some(name.as_str())
 }
 

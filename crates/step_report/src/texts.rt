@@ -1,6 +1,7 @@
 //! The texts that steps name: the one that is traced, and others by their names.
 ghost use Rattle.std.specs.Prelude.{◌<◌, ◌^◌, IfOk, length};
-ghost use Rattle.step_report.specs.Texts.{IsOf};
+ghost use Rattle.call_json.specs.Spots as utf_16;
+ghost use Rattle.step_report.specs.Spots as characters;
 
 use crate::positions::Spots;
 use std::alloc::{AllocError, Global};
@@ -19,8 +20,8 @@ pub struct Texts<'a> {
     /// Bytes of the text with their positions in UTF-16 code units.
     pub(crate) near: call_json::Spots,
     ghost short: { length text.now < 2 ^ 32 },
-    ghost nearby: { Rattle.call_json.specs.Spots.AreOf text.now near },
-    ghost right: { Rattle.step_report.specs.Spots.AreOf text.now spots },
+    ghost nearby: { utf_16.AreOf text.now near },
+    ghost right: { characters.AreOf text.now spots },
 }
 
 impl<'a> Texts<'a> {
