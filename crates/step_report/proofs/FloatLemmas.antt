@@ -11,8 +11,6 @@ use Rattle.call_json.specs.Places.{count}
 use Rattle.expander_model.specs.Definitions.{Definition, definition_of}
 use Rattle.expander_model.specs.declared.fault.FaultKind.{FaultKind}
 use Rattle.expander_trace.specs.Steps.{Attempt, Step}
-use Rattle.expander_trace.specs.declared.limits.Cut.{Cut}
-use Rattle.step_report.specs.Json.{cut_of, end_of}
 use Rattle.step_report.specs.Places.{other_name}
 use Rattle.step_report.specs.Texts.{Named}
 use Rattle.step_report.specs.Values.{at, call_trees, count_if, macro_if, macro_of, name_if}
@@ -90,9 +88,3 @@ step_has_no_float t index parent s =
       no_float_stays s.attempt,
       no_float_call s.attempt,
     ) refl
-
-pub cut_has_no_float : (cut : Cut) → has_float (cut_of cut) ≡ false
-cut_has_no_float cut = refl
-
-pub end_has_no_float : (steps : ℕ) (cut : Bool) → has_float (end_of steps cut) ≡ false
-end_has_no_float steps cut = refl

@@ -3,4 +3,5 @@ mod AnswerLemmas
 mod AskedLemmas
 mod FloatLemmas
 mod ListLemmas
+mod SpanLemmas
 mod TraceLemmas

@@ -1,5 +1,5 @@
 //! Lines of JSON that tell of steps.
-ghost use Rattle.std.specs.Prelude.{◌≡◌, IfOk, OnOk, false, is_some, map, not};
+ghost use Rattle.std.specs.Prelude.{◌≡◌, ◌||◌, IfOk, OnOk, false, is_some, map, not};
 ghost use Rattle.serde_json.specs.View.{view};
 ghost use Rattle.serde_json.specs.Written.{has_float};
 ghost use Rattle.expander_trace.specs.Given.{step_in, trace_in};
@@ -204,6 +204,13 @@ fn push_end(alloc: Global, out: &mut String, steps: usize, cut: bool) -> Result<
     push_line(alloc, out, &value)
 }
 
+// Whether a trace is cut so far, or this one.
+fn or_cut(cut: bool, trace: &Trace) -> bool
+    ensures { result ≡ (cut || is_some trace.now.room.cut) }
+{
+    cut || trace.room.cut.is_some()
+}
+
 /// Adds a line of JSON for each step of traces, in order, one for why a trace is cut, and one that
 /// ends them. Steps of calls that are written outside of a range are left out.
 ///
@@ -224,7 +231,7 @@ pub fn push_json(
     let mut cut = false;
     for trace in traces {
         next = push_trace(alloc, out, texts, asked, next, trace)?;
-        cut = cut || trace.room.cut.is_some();
+        cut = or_cut(cut, trace);
     }
     push_end(alloc, out, next, cut)
 }

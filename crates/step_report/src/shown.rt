@@ -41,8 +41,7 @@ fn push_characters(out: &mut String, characters: &[char]) -> Result<(), AllocErr
 fn characters_of(alloc: Global, text: &str) -> Result<Vec<char>, AllocError>
     ensures { IfOk result (λ cs. cs.items ≡ chars text.now) }
 {
-    let characters: Vec<char> = text.chars().collect(alloc)?;
-    Ok(characters)
+    text.chars().collect(alloc)
 }
 
 /// Adds a text as it is shown.
