@@ -14,7 +14,7 @@ use program_files::{Others, stopped};
 use reply_json::{refused_line, unread_line};
 use std::io;
 use std::process::ExitCode;
-use step_report::{Answer, Asked, Form, Lines, Question, Texts, answer};
+use step_report::{Answer, Asked, Form, Lines, Question, Texts, answer_to};
 
 // How many tokens rules may put out for the steps.
 const MOST_TOKENS: u32 = 1_000_000;
@@ -130,7 +130,7 @@ fn answer_for(
     };
     let texts = Texts::of(rt.alloc(), steps.file, text, others.names.as_slice())?;
     let question = question_of(asked, steps);
-    match answer(rt.alloc(), &texts, &by, &others.prelude, question) {
+    match answer_to(rt.alloc(), &texts, &by, &others.prelude, question) {
         Ok(Answer::Told(lines)) => show(rt, &lines, steps),
         Ok(Answer::Unread(fault)) => unread(rt, text, fault, steps.json),
         Err(fault) => refused(rt, Refusal::from(fault), steps.json),

@@ -119,7 +119,7 @@ fn lines_of(
 ///
 /// `Memory`. `Tokens`, only if what is read of the text has more than `u32::MAX` tokens, which doc
 /// comments alone can bring about.
-pub fn answer<G: FragmentGrammar>(
+pub fn answer_to<G: FragmentGrammar>(
     alloc: Global,
     texts: &Texts<'_>,
     by: &CallOptions<'_, G>,

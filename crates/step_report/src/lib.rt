@@ -12,7 +12,7 @@ mod shown;
 mod texts;
 mod values;
 
-pub use answer::{Answer, Asked, Form, Lines, Question, answer};
+pub use answer::{Answer, Asked, Form, Lines, Question, answer_to};
 pub use faults::one_stays;
 pub use json::push_json;
 pub use lines::push_text;

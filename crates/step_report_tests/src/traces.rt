@@ -7,7 +7,7 @@ use expander_trace::limits::Limits;
 use rust_grammar::RustGrammar;
 use std::alloc::{AllocError, Global};
 use std::test::Fail;
-use step_report::{Answer, Question, Texts, answer};
+use step_report::{Answer, Question, Texts, answer_to};
 use tt_data::{Edition, TtFault};
 
 /// What is traced where nothing limits it.
@@ -60,7 +60,7 @@ pub(crate) fn told(
     };
     let names = names_of(alloc)?;
     let texts = Texts::of(alloc, "calls.rs", text, &names)?;
-    match answer(alloc, &texts, &by, &prelude, question)? {
+    match answer_to(alloc, &texts, &by, &prelude, question)? {
         Answer::Told(lines) => Ok((lines.text, lines.stays)),
         Answer::Unread(_) => Ok((String::from_str(alloc, "unread")?, true)),
     }
