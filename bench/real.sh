@@ -10,33 +10,10 @@
 # std may use what a later one refuses, as `vec!` of 1.63 does. It needs rustc, rustfmt and python3 3.11.
 # shellcheck source=bench/common.sh
 . "$(dirname "$(readlink -f "${BASH_SOURCE[0]}")")/common.sh"
+# shellcheck source=bench/packages.sh
+. "$top/bench/packages.sh"
 export PYTHONPATH=$top/bench/survey:$top/bench/agreement PYTHONDONTWRITEBYTECODE=1
-default='anyhow bindgen bitflags bytes cc chrono clap crossbeam-utils futures-util hyper indexmap itertools libc log memchr mio
-nom num-traits proc-macro2 quote rand rayon regex semver serde serde-json smallvec syn thiserror time tokio toml tracing-core
-url uuid'
-
-# Downloads packages, and rust-src, and unpacks them: sets `folders`, and `std` where that is not said.
-download() {
-    local package names=(rust-src)
-    for package in ${PACKAGES-$default}; do
-        names+=("librust-$package-dev")
-    done
-    mkdir -p "$work/packages" "$work/unpacked" || exit 2
-    (cd "$work/packages" && apt-get download "${names[@]}" >/dev/null 2>&1) || { echo 'real: apt-get download failed' >&2; exit 2; }
-    for package in "$work"/packages/*.deb; do
-        dpkg -x "$package" "$work/unpacked" || exit 2
-    done
-    folders=("$work/unpacked/usr/share/cargo/registry")
-    [ -n "$std" ] || std=$(echo "$work"/unpacked/usr/src/rustc-*/library)
-}
-
-std=${STD-}
-folders=("$@")
-for folder in "$@"; do
-    [ -d "$folder" ] || { echo "real: there is no folder $folder" >&2; exit 2; }
-done
-[ $# != 0 ] || download
-[ -f "$std/core/src/macros/mod.rs" ] || { echo 'real: there is no source of std; STD can name it' >&2; exit 2; }
+crates_in "$@"
 program=${FILGORDD-}
 if [ -z "$program" ]; then
     "$top/bin/filgordd" expand </dev/null || exit 2

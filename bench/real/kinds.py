@@ -76,6 +76,20 @@ class Package:
             table[os.path.normpath(os.path.join(self.folder, name))] = {row[0]: row[-1] for row in rows}
         return table
 
+    def expanded(self, program, table):
+        """By file of the table, the expansion, and whether it has a fault; and the words of all faults."""
+        got = self.ask(program, 'expand')
+        names = {os.path.relpath(path, self.folder): path for path in table}
+        texts, name = {}, next(iter(names))
+        for line in got.stdout.splitlines(keepends=True):
+            if line.startswith('// ') and line[3:-1] in names and line[3:-1] not in texts:
+                name = line[3:-1]
+            texts.setdefault(name, []).append(line)
+        told = [line for line in got.stderr.splitlines() if not line.startswith('filgordd: ')]
+        faulty = {name for name in names if len(names) == 1 and told or any(line.startswith(name + ': ') for line in told)}
+        found = {names[name]: (''.join(lines), name in faulty) for name, lines in texts.items()}
+        return found, [line.rpartition(': ')[2] for line in told]
+
     def sources(self):
         crate, found = Crate(self.name), {}
         read_root(crate, os.path.join(self.folder, self.root), found)
@@ -108,21 +122,22 @@ def calls_in(text):
     return Counter(tokens)
 
 
-def expanded(package, program, path, source, names, sums):
-    """Expands one file, and counts what stays and what rustfmt accepts."""
-    got = package.ask(program, 'expand', os.path.relpath(path, package.folder))
-    told = [line for line in got.stderr.splitlines() if not line.startswith('filgordd: ')]
+def look_at(package, path, source, expansion, names, sums):
+    """Counts what stays in the expansion of a file, and whether rustfmt accepts it."""
+    text, faulty = expansion
     sums['expanded'] += 1
-    sums['faultless'] += not told
-    sums.update(('fault', line.rpartition(': ')[2]) for line in told)
-    printed = calls_in(got.stdout)
+    sums['faultless'] += not faulty
+    printed = calls_in(text)
     wanted = Counter(c.name for c in source.calls if not c.by_path and c.name in names)
     for name, count in wanted.items():
         sums['listed'] += count
         sums['stay'] += min(count, printed[name])
     if accepts(source.text, package.edition):
+        good = accepts(text, package.edition)
         sums['formatted'] += 1
-        sums['accepted'] += accepts(got.stdout, package.edition)
+        sums['accepted'] += good
+        if not good:
+            print('rustfmt refuses %s' % path, file=sys.stderr)
 
 
 def builtins(library):
@@ -161,6 +176,8 @@ def main():
         package.give(known)
         table = package.listed(program)
         walked = {os.path.realpath(path) for path in table}
+        expansions, faults = package.expanded(program, table) if sums['expanded'] < most else ({}, [])
+        sums.update(('fault', words) for words in faults)
         crate, sources = package.sources()
         sums['crates'] += 1
         for path, names in table.items():
@@ -170,10 +187,11 @@ def main():
                 continue
             sums['files'] += 1
             kinds.update(kind_of(call, names, crate, walked, picks, builtin) for call in source.calls)
-            if sums['expanded'] < most:
-                expanded(package, program, path, source, names, sums)
+            if path in expansions:
+                look_at(package, path, source, expansions[path], names, sums)
         print('%s: %d files' % (package.name, len(table)), file=sys.stderr, flush=True)
     show(sums, kinds)
 
 
-main()
+if __name__ == "__main__":
+    main()

@@ -25,6 +25,7 @@ const MOST: usize = 100;
 
 /// A text of at most `u32::MAX` bytes and its trees, of which faults are explained by a grammar and
 /// an edition.
+#[derive(Drop)]
 pub struct Question<'a, G> {
     pub grammar: &'a G,
     pub edition: Edition,
