@@ -23,11 +23,11 @@ module _ (t : Named) (q : Question) (by : Rewrites Definition) (dialect : Dialec
       → IsTracedIn by dialect depth (at_of q.asked) q.limits initial read (found.Unread fault)
       → IsAnswerTo t q (traces_in by dialect depth q initial) read (Unread fault)
   unread (Err other) fault same = same
-  unread (Ok f) fault no = absurd no
+  unread (Ok f) fault never = absurd never
 
   pub told : (read : Result Forest ReadFault) (traces : _) (l : Lines)
       → IsTracedIn by dialect depth (at_of q.asked) q.limits initial read (found.Traces traces)
       → AreLinesOf t q (map trace_in traces.items) l
       → IsAnswerTo t q (traces_in by dialect depth q initial) read (Told l)
-  told (Err fault) traces l no are = absurd no
+  told (Err fault) traces l never are = absurd never
   told (Ok f) traces l same are = subst (λ (ps : List (Part Forest)). AreLinesOf t q ps l) same are

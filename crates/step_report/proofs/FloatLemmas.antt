@@ -5,6 +5,7 @@ use Rattle.serde_json.specs.Data.{Data}
 use Rattle.serde_json.specs.View.{items_of}
 use Rattle.serde_json.specs.Written.{has_float, items_have_float}
 use Rattle.tt_data.specs.Forest.{Forest}
+use Rattle.tt_data.specs.Walk.{walk}
 use Rattle.tt_data.specs.declared.span.Span.{Span}
 use Rattle.bridge.specs.Printing.{Print, print_of}
 use Rattle.call_json.specs.Places.{count}
@@ -46,10 +47,10 @@ no_float_macro t (Some a) = no_float_definition t (definition_of a.definition)
 
 no_float_call : (a : Option (Attempt Forest)) → has_float (call_trees a) ≡ false
 no_float_call None = refl
-no_float_call (Some a) = no_float_printed _
+no_float_call (Some a) = no_float_printed (print_of (walk a.call))
 
 no_float_given : (given : Result (ℕ × Forest) FaultKind) → has_float (result_in given) ≡ false
-no_float_given (Ok given) = no_float_printed _
+no_float_given (Ok given) = no_float_printed (print_of (walk given.1))
 no_float_given (Err kind) = refl
 
 no_float_result : (a : Option (Attempt Forest)) → has_float (result_if a) ≡ false

@@ -1,7 +1,7 @@
 -- Texts and trees as they are shown within a line. (Of this project.)
 use Rattle.std.specs.Prelude.{◌≡◌, ℕ, ◌-◌, List, [], ◌∷◌, ◌++◌, OnOk, Result, String}
 use Rattle.std.specs.Prelude.{chars, codes, decimal, drop, encode_utf8_all, flat_map, if◌then◌else◌}
-use Rattle.std.specs.Prelude.{◌==◌, length, nat_le, string_bytes, take}
+use Rattle.std.specs.Prelude.{◌==◌, length, nat_eq, nat_le, string_bytes, take}
 use Rattle.core.specs.Str.{trim_end}
 use Rattle.tt_data.specs.Forest.{Forest}
 use Rattle.tt_data.specs.Walk.{walk}
@@ -41,8 +41,8 @@ shown_characters cs tokens =
 
 -- the characters of a printed text without the blanks at its end
 abbrev pub shown_text : List ℕ → ℕ → List ℕ
-shown_text [] tokens = codes "(no tokens)"
-shown_text (c ∷ cs) tokens = shown_characters (c ∷ cs) tokens
+shown_text cs tokens =
+    if nat_eq (length cs) 0 then codes "(no tokens)" else shown_characters cs tokens
 
 abbrev pub shown_print : Print → List ℕ
 shown_print p = shown_text (chars (trim_end p.text)) (length p.tokens)

@@ -1,5 +1,5 @@
 -- JSON values that tell of a step. (RFC 8259; of this project: the members.)
-use Rattle.std.specs.Prelude.{ℕ, ◌+◌, List, [], ◌∷◌, Bool, true, false, Option, Some, None}
+use Rattle.std.specs.Prelude.{ℕ, ◌+◌, List, [], ◌∷◌, ◌++◌, Bool, true, false, Option, Some, None}
 use Rattle.std.specs.Prelude.{Result, Ok, Err, codes, if◌then◌else◌, nat_eq}
 use Rattle.tt_data.specs.Forest.{Forest}
 use Rattle.tt_data.specs.Walk.{walk}
@@ -35,9 +35,12 @@ at t s = if nat_eq s.anchor 0 then place t.text s.range
 -- ---- tokens
 
 -- where tokens come from, three numbers for each: a text, and where it starts and ends there
+abbrev pub numbers_of : Span → List ℕ
+numbers_of s = s.anchor ∷ s.range.start ∷ s.range.«end» ∷ []
+
 abbrev pub span_numbers : List Span → List ℕ
 span_numbers [] = []
-span_numbers (s ∷ ss) = s.anchor ∷ s.range.start ∷ s.range.«end» ∷ span_numbers ss
+span_numbers (s ∷ ss) = numbers_of s ++ span_numbers ss
 
 abbrev pub printed : Print → Data
 printed p = object (member (codes "origins") (numbers (span_numbers p.tokens))

@@ -4,7 +4,7 @@ ghost use Rattle.bridge.specs.PrintedTrees.{print_in};
 ghost use Rattle.bridge.specs.Printing.{print_of};
 ghost use Rattle.tt_data.specs.Walk.{walk};
 ghost use Rattle.step_report.specs.Shown.{Adds, middle_cut, most, shown, shown_character};
-ghost use Rattle.step_report.specs.Shown.{shown_print, shown_trees};
+ghost use Rattle.step_report.specs.Shown.{shown_print, shown_text, shown_trees};
 
 use bridge::{Printed, print};
 use hidden_marks::push_visible;
@@ -58,24 +58,33 @@ fn push_cut(out: &mut String, characters: &[char], tokens: usize) -> Result<(), 
     requires { most < length characters.now }
     ensures { Adds result out.old out.new (middle_cut characters.now tokens) }
 {
-    push_characters(out, &characters[..SIDE])?;
+    let (front, _) = characters.split_at(SIDE);
+    let (_, back) = characters.split_at(characters.len() - SIDE);
+    push_characters(out, front)?;
     out.push_str(" .. ")?;
-    push_characters(out, &characters[characters.len() - SIDE..])?;
+    push_characters(out, back)?;
     write!(out, " ({tokens} tokens)")
 }
 
-// Adds a printed text as one line, at most sixty characters of it.
+// Adds the characters of a printed text, at most sixty of them.
+fn push_some(out: &mut String, characters: &[char], tokens: usize) -> Result<(), AllocError>
+    ensures { Adds result out.old out.new (shown_text characters.now tokens) }
+{
+    if characters.len() == 0 {
+        return out.push_str("(no tokens)");
+    }
+    if characters.len() <= MOST {
+        return push_characters(out, characters);
+    }
+    push_cut(out, characters, tokens)
+}
+
+// Adds a printed text as one line.
 fn push_print(alloc: Global, out: &mut String, printed: &Printed) -> Result<(), AllocError>
     ensures { Adds result out.old out.new (shown_print (print_in printed.now)) }
 {
     let characters = characters_of(alloc, printed.text.as_str().trim_end())?;
-    if characters.is_empty() {
-        return out.push_str("(no tokens)");
-    }
-    if characters.len() <= MOST {
-        return push_characters(out, &characters);
-    }
-    push_cut(out, &characters, printed.tokens.len())
+    push_some(out, &characters, printed.tokens.len())
 }
 
 /// The trees of a tree, printed alone.

@@ -1,10 +1,11 @@
 //! JSON values that tell of a step.
-ghost use Rattle.std.specs.Prelude.{◌≡◌, IfOk, option_map};
+ghost use Rattle.std.specs.Prelude.{◌≡◌, ◌++◌, IfOk, OnOk, map, option_map};
 ghost use Rattle.serde_json.specs.View.{view};
-ghost use Rattle.call_json.specs.Places.{numbers};
+ghost use Rattle.call_json.specs.Places.{count, numbers};
 ghost use Rattle.expander_model.specs.Definitions.{definition_of};
 ghost use Rattle.expander_trace.specs.Given.{attempt_in, step_in};
-ghost use Rattle.step_report.specs.Values.{at, call_trees, count_if, macro_if, macro_of, result_if};
+ghost use Rattle.step_report.specs.Values.{at, call_trees, count_if, macro_if, macro_of};
+ghost use Rattle.step_report.specs.Values.{numbers_of, result_if};
 ghost use Rattle.step_report.specs.Values.{rule_if, source, span_numbers, stays_if, step, trees};
 ghost use Rattle.step_report.specs.Texts.{texts_in};
 
@@ -45,15 +46,24 @@ fn at(alloc: Global, texts: &Texts<'_>, span: Span) -> Result<Value, AllocError>
     })
 }
 
+// Adds the three numbers that tell of a span.
+fn push_span(list: &mut Vec<Value>, span: Span) -> Result<(), AllocError>
+    ensures { OnOk result (map view list.new.items
+        ≡ map view list.old.items ++ map count (numbers_of span)) }
+{
+    push_number(list, span.anchor)?;
+    push_number(list, span.range.start)?;
+    push_number(list, span.range.end)?;
+    Ok(())
+}
+
 // Where tokens come from, three numbers for each.
 fn origins(alloc: Global, spans: &[Span]) -> Result<Value, AllocError>
     ensures { IfOk result (λ v. view v ≡ numbers (span_numbers spans.now)) }
 {
     let mut list = Vec::new(alloc);
     for span in spans {
-        push_number(&mut list, span.anchor)?;
-        push_number(&mut list, span.range.start)?;
-        push_number(&mut list, span.range.end)?;
+        push_span(&mut list, *span)?;
     }
     Ok(Value::Array(list))
 }

@@ -9,9 +9,9 @@ pub loop-trace-preserved : goal.loop-trace-preserved
 loop-trace-preserved c =
     one_more_json trace_in c.args.traces.now c.loop-trace.trace-index
     (texts_in c.args.texts.now) c.args.asked c.loop-trace.next c.loop-trace.cut
-    c.trace-item.result c.in_ok-next.next c.or_cut.result (string_bytes c.loop-trace.out)
+    c.trace-item.result c.in_ok-next.next c.or_cut-cut.result (string_bytes c.loop-trace.out)
     (string_bytes c.push_trace.new.out) _ c.loop-trace-test.true c.trace-item.is
-    c.loop-trace.invariant c.in_ok-next.ensures.lines c.in_ok-next.ensures.next c.or_cut.ensures
+    c.loop-trace.invariant c.in_ok-next.ensures.lines c.in_ok-next.ensures.next c.or_cut-cut.ensures
 
 pub returns : goal.returns
 returns c =

@@ -11,11 +11,9 @@ use Rattle.step_report.proofs.values.origins.Goals as goal
 
 pub loop-span-preserved : goal.loop-span-preserved
 loop-span-preserved c =
-    one_more_span c.args.spans.now c.loop-span.span-index c.span-item.result
-    (map view c.loop-span.list.items) (map view c.push_number.new.list.items)
-    (map view c.push_number-2.new.list.items) (map view c.push_number-3.new.list.items) _
-    c.loop-span-test.true c.span-item.is c.loop-span.invariant c.in_ok-push_number.ensures
-    c.in_ok-push_number-2.ensures c.in_ok-push_number-3.ensures
+    one_more_span c.args.spans.now c.loop-span.span-index _ (map view c.loop-span.list.items)
+    (map view c.push_span.new.list.items) _ c.loop-span-test.true c.loop-span.invariant
+    c.in_ok-push_span.ensures
 
 pub returns : goal.returns
 returns c =
