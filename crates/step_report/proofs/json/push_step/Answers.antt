@@ -1,8 +1,11 @@
 use Rattle.std.proofs.Common.{◌∙◌, ap}
 use Rattle.serde_json.specs.Written.{has_float}
+use Rattle.expander_trace.specs.Given.{step_in}
+use Rattle.step_report.specs.Texts.{texts_in}
 use Rattle.step_report.proofs.FloatLemmas.{step_has_no_float}
 use Rattle.step_report.proofs.json.push_step.Goals as goal
 
 pub push_line-requires : goal.push_line-requires
 push_line-requires c =
-    ap has_float c.in_ok-value.ensures ∙ step_has_no_float _ _ _ _
+    ap has_float c.in_ok-value.ensures
+    ∙ step_has_no_float (texts_in c.args.texts.now) c.args.index c.args.parent (step_in c.args.it.now)
