@@ -1,7 +1,7 @@
 #!/bin/bash
 # bench/real.sh [FOLDER..]: whole crates, each from its root. Of the calls of macros in their files it prints which have a
 # definition that `filgordd macros` lists, by where that is from, and which have none, by why. Then, of the files
-# expanded by `filgordd expand --crate`, how many have no fault, how many calls of a listed macro are still printed, and how
+# expanded by `filgordd expand --crate`, how many have no fault, how many calls of these macros are still printed, and how
 # many of those that rustfmt accepts have an expansion that it accepts too.
 # With no FOLDER it downloads packages of Debian into a folder for the while, and rust-src, by apt-get; PACKAGES names
 # others. STD is the folder `library` of an installed rust-src; a downloaded one is used where it is not said. FILGORDD is

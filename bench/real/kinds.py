@@ -96,12 +96,17 @@ class Package:
         return crate, {os.path.realpath(path): source for path, (source, _) in found.items()}
 
 
+def in_a_group(call):
+    """Whether the nearest definition is in a group of the file, which `macros` does not list."""
+    return bool(call.found) and call.found.source is call.source
+
+
 def kind_of(call, names, crate, walked, picks, builtin):
     if call.by_path:
         return 'by a path'
     if call.name in names:
         return names[call.name]
-    if call.found and call.found.source is call.source:
+    if in_a_group(call):
         return 'own, in a group'
     if call.name in builtin:
         return 'built into the compiler'
@@ -128,7 +133,7 @@ def look_at(package, path, source, expansion, names, sums):
     sums['expanded'] += 1
     sums['faultless'] += not faulty
     printed = calls_in(text)
-    wanted = Counter(c.name for c in source.calls if not c.by_path and c.name in names)
+    wanted = Counter(c.name for c in source.calls if not c.by_path and (c.name in names or in_a_group(c)))
     for name, count in wanted.items():
         sums['listed'] += count
         sums['stay'] += min(count, printed[name])
@@ -160,7 +165,7 @@ def show(sums, kinds):
     print('%d files were expanded, %d without a fault' % (sums['expanded'], sums['faultless']))
     for key, count in sorted((k, n) for k, n in sums.items() if k[0] == 'fault'):
         print('    %7d %s' % (count, key[1]))
-    print('%d calls in them are of a listed macro, and %d of these are printed still' % (sums['listed'], sums['stay']))
+    print('%d calls in them are of a listed macro or of one in a group, and %d are printed still' % (sums['listed'], sums['stay']))
     print('rustfmt accepts %d of %d expansions of files that it accepts' % (sums['accepted'], sums['formatted']))
 
 

@@ -39,8 +39,8 @@ pub struct Explanation<'a> {
     /// One for each rule of the style, in order.
     pub rules: Vec<RuleStop<'a>>,
     /// Which of these is nearest to a match, by its place in `rules`: the first that does not stop
-    /// as `Unread`, since rustc tries no rule after it; if there is none, the one that comes furthest
-    /// in the argument, the first of equals. `None` if no rule has the style.
+    /// as `Unread`, since rustc tries no rule after it; if there is none, the one that comes
+    /// furthest in the argument, the first of equals. `None` if no rule has the style.
     pub nearest: Option<usize>,
 }
 
