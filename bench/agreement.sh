@@ -18,7 +18,7 @@ command -v rustc >/dev/null || { echo 'agreement: there is no rustc' >&2; exit 2
 rustc --version
 python3 "$parts/cut.py" "$work/pairs" "${folders[@]}" || exit 2
 python3 "$parts/judge.py" "$work/pairs" "$year" || exit 2
-build agreement rustc_lexer bare_box symbols tt_data token_storage tt fragment_grammar small_grammar rust_grammar bridge mbe_rules mbe_matcher mbe_transcriber mbe expander_model expander_reparse expander_scope expander_session expander_run expander
+build agreement rustc_lexer bare_box byte_buffer symbols tt_data token_bytes tt fragment_grammar small_grammar rust_grammar bridge mbe_rules mbe_matcher mbe_transcriber mbe expander_model expander_reparse expander_scope expander_session expander_run expander
 python3 "$parts/ours.py" "$work/pairs" "$year" "$program" || exit 2
 python3 "$parts/compare.py" "$work/pairs" || exit 2
 differs=$(mktemp) && python3 "$parts/compare.py" "$work/pairs" -v >"$differs" && echo "differs: $differs"

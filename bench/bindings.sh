@@ -49,7 +49,7 @@ if command -v valgrind >/dev/null; then
     call e counts 'its counts'
 fi
 [ -z "${CALLS_ALONE-}" ] || exit 0
-[ -n "$program" ] || build edits rustc_lexer bare_box symbols tt_data token_storage tt fragment_grammar small_grammar bridge mbe_rules mbe_matcher mbe_transcriber mbe expander_model expander_reparse expander_scope expander_session expander_run expander
+[ -n "$program" ] || build edits rustc_lexer bare_box byte_buffer symbols tt_data token_bytes tt fragment_grammar small_grammar bridge mbe_rules mbe_matcher mbe_transcriber mbe expander_model expander_reparse expander_scope expander_session expander_run expander
 
 # The microseconds of processor time of them.
 time_of() {

@@ -5,7 +5,7 @@
 # are contracts that have no Rust tokens. Every line ends in a lifetime, a string or a comment in turn,
 # so that with the source's own these are about a tenth of the lexemes.
 . "$(dirname "$(readlink -f "${BASH_SOURCE[0]}")")/common.sh"
-build bridge rustc_lexer bare_box symbols tt_data token_storage tt bridge
+build bridge rustc_lexer bare_box byte_buffer symbols tt_data token_bytes tt bridge
 
 # What the program prints of a text, where each of the four is done so often: lexed, read, printed, cut.
 try() {

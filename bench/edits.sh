@@ -5,7 +5,7 @@
 # front of everything. It tells the most memory of an answer from scratch and of all answers of a session, too.
 . "$(dirname "$(readlink -f "${BASH_SOURCE[0]}")")/common.sh"
 turns=${1:-40}
-[ -n "$program" ] || build edits rustc_lexer bare_box symbols tt_data token_storage tt fragment_grammar small_grammar bridge mbe_rules mbe_matcher mbe_transcriber mbe expander_model expander_reparse expander_scope expander_session expander_run expander
+[ -n "$program" ] || build edits rustc_lexer bare_box byte_buffer symbols tt_data token_bytes tt fragment_grammar small_grammar bridge mbe_rules mbe_matcher mbe_transcriber mbe expander_model expander_reparse expander_scope expander_session expander_run expander
 
 awk 'BEGIN {
     for (i = 0; i < 2000; i++) {

@@ -8,7 +8,7 @@
 # made `.`, so that it has no call, beyond lexing, reading and printing it; `print` prints the trees of the
 # output; `expand` is the rest.
 . "$(dirname "$(readlink -f "${BASH_SOURCE[0]}")")/common.sh"
-build expand rustc_lexer bare_box symbols tt_data token_storage tt fragment_grammar small_grammar bridge mbe_rules mbe_matcher mbe_transcriber mbe expander_model expander_reparse expander_scope expander_session expander_run expander
+build expand rustc_lexer bare_box byte_buffer symbols tt_data token_bytes tt fragment_grammar small_grammar bridge mbe_rules mbe_matcher mbe_transcriber mbe expander_model expander_reparse expander_scope expander_session expander_run expander
 small=250000
 large=$(( 16 * small ))
 

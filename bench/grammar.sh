@@ -4,7 +4,7 @@
 # types go on with arguments that break off, so that they are read again as operands. Ten million bytes
 # are asked about in all; the time to build the trees is taken off.
 . "$(dirname "$(readlink -f "${BASH_SOURCE[0]}")")/common.sh"
-build grammar bare_box symbols tt_data token_storage tt fragment_grammar small_grammar rust_grammar
+build grammar bare_box byte_buffer symbols tt_data token_bytes tt fragment_grammar small_grammar rust_grammar
 
 # The milliseconds of processor time of a run in this mode; the least of three.
 run() {

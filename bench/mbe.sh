@@ -4,7 +4,7 @@
 # last fits, a table of assignments, a long template, a list of any trees, and a pattern with very many
 # readings, which no call fits. The time to build the trees and to read the rules is taken off.
 . "$(dirname "$(readlink -f "${BASH_SOURCE[0]}")")/common.sh"
-build mbe rustc_lexer bare_box symbols tt_data token_storage tt fragment_grammar test_grammars mbe_rules mbe_matcher mbe_transcriber mbe
+build mbe rustc_lexer bare_box byte_buffer symbols tt_data token_bytes tt fragment_grammar test_grammars mbe_rules mbe_matcher mbe_transcriber mbe
 
 # The milliseconds of processor time of a run in this mode; the least of three.
 run() {

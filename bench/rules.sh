@@ -3,7 +3,7 @@
 # one another, and one of 2,000, read as often as makes the same bytes in all. The time to build the trees
 # is taken off. Bytes are those of the text that is spelled with a space between all words.
 . "$(dirname "$(readlink -f "${BASH_SOURCE[0]}")")/common.sh"
-build rules bare_box symbols tt_data token_storage tt mbe_rules
+build rules bare_box byte_buffer symbols tt_data token_bytes tt mbe_rules
 
 # The milliseconds of processor time of a run in this mode; the least of three.
 run() {

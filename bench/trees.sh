@@ -4,7 +4,7 @@
 # list, then over one list of 666,667 groups. What a mode begins with is taken off. Tells also the time
 # of building.
 . "$(dirname "$(readlink -f "${BASH_SOURCE[0]}")")/common.sh"
-build trees bare_box symbols tt_data token_storage tt
+build trees bare_box byte_buffer symbols tt_data token_bytes tt
 
 # The microseconds of a run in this mode; the least of three.
 run() {

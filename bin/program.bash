@@ -137,20 +137,21 @@ check_words() {
     file_at= root=
     find_root
     case ${words[0]-} in
-        expand | explain | lsp | macros | replay | view) ;;
+        expand | explain | lsp | macros | replay | trace | view) ;;
         '') misused 'there is no command' ;;
         *) misused "there is no command $(shown "${words[0]}")" ;;
     esac
     while [ $i -lt ${#words[@]} ]; do
         case ${words[i]} in
             --) check_rest $((i + 1)); return ;;
-            --grammar=* | --edition=* | --scope=* | --depth=* | --most-calls=* | --most-tokens=* | --std=* | --with=* | --cfg=* | --crate=* | --extern=* | --diagnostics=*) check_value "${words[i]%%=*}" "${words[i]#*=}" ;;
-            --grammar | --edition | --scope | --depth | --most-calls | --most-tokens | --with | --cfg | --crate | --extern | --diagnostics)
+            --grammar=* | --edition=* | --scope=* | --depth=* | --most-calls=* | --most-tokens=* | --std=* | --with=* | --cfg=* | --crate=* | --extern=* | --diagnostics=* | --to=*) check_value "${words[i]%%=*}" "${words[i]#*=}" ;;
+            --grammar | --edition | --scope | --depth | --most-calls | --most-tokens | --with | --cfg | --crate | --extern | --diagnostics | --to)
                 [ $((i + 1)) -lt ${#words[@]} ] || misused "${words[i]} has no value"
                 check_value "${words[i]}" "${words[i + 1]}"
                 i=$((i + 1))
                 ;;
-            --layout | --json) [ "${words[0]}" = expand ] || misused "${words[0]} has no option ${words[i]}" ;;
+            --layout | --files) [ "${words[0]}" = expand ] || misused "${words[0]} has no option ${words[i]}" ;;
+            --json) [[ " expand explain replay " == *" ${words[0]} "* ]] || misused "${words[0]} has no option --json" ;;
             -?*) misused "there is no option $(shown "${words[i]}")" ;;
             *) take_file $i ;;
         esac
@@ -192,12 +193,12 @@ take_file() {
     [ "$path" = - ] || check_file "$path"
 }
 
-# Sets `path` to the file that a word names, and `place` to the line and column behind it, which `expand` and `explain`
-# take.
+# Sets `path` to the file that a word names, and `place` to the line and column behind it, which `expand`, `explain`
+# and `trace` take; `trace` takes a line alone too.
 split_place() {
     path=$1 place=
-    case ${words[0]} in expand | explain) ;; *) return 0 ;; esac
-    [[ $1 =~ ^(.*)(:[0-9]+:[0-9]+)$ ]] || return 0
+    case ${words[0]} in expand | explain | trace) ;; *) return 0 ;; esac
+    [[ $1 =~ ^(.*)(:[0-9]+:[0-9]+)$ ]] || [[ ${words[0]} = trace && $1 =~ ^(.*)(:[0-9]+)$ ]] || return 0
     path=${BASH_REMATCH[1]} place=${BASH_REMATCH[2]}
 }
 
@@ -213,6 +214,7 @@ check_value() {
         --scope=rust | --scope=top) return ;;
         --diagnostics=all | --diagnostics=likely | --diagnostics=none) [ "${words[0]}" != lsp ] || return ;;
         --depth=*) [[ $2 =~ ^\+?0*([0-9]{1,3})$ ]] && [ "${BASH_REMATCH[1]}" -le 255 ] && return ;;
+        --to=*) [ "${words[0]}" = trace ] && [[ $2 =~ ^\+?0*[0-9]{1,19}$ ]] && return ;;
         --most-calls=* | --most-tokens=*) [[ $2 =~ ^\+?0*[0-9]{1,19}$ ]] && return ;;
     esac
     misused "$1 does not take $(shown "$2")"

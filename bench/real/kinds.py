@@ -78,7 +78,7 @@ class Package:
 
     def expanded(self, program, table):
         """By file of the table, the expansion, and whether it has a fault; and the words of all faults."""
-        got = self.ask(program, 'expand')
+        got = self.ask(program, 'expand', '--files')
         names = {os.path.relpath(path, self.folder): path for path in table}
         texts, name = {}, next(iter(names))
         for line in got.stdout.splitlines(keepends=True):
@@ -198,4 +198,5 @@ def main():
     show(sums, kinds)
 
 
-main()
+if __name__ == "__main__":
+    main()

@@ -287,6 +287,42 @@ static void codes(void) {
     if (zeros != MAP_FAILED) munmap(zeros, huge);
 }
 
+/* The last answer as a line of JSON, until the text is edited. */
+static void json_lines(void) {
+    struct filgordd_session s = FILGORDD_SESSION_INIT;
+    const char *read = "{\"answer\":\"expansion\",\"expanded\":1,\"faults\":[],\"origins\":[0,0,1,0,1,2],"
+                       "\"ranges\":[0,1,2,3],\"text\":\"a ;\\n\",\"v\":1}";
+    const char *unread = "{\"answer\":\"unread\",\"at\":{\"bytes\":[2,3],\"end\":[0,3],\"start\":[0,2]},"
+                         "\"kind\":\"GroupLeftOpen\",";
+    size_t wanted = 7;
+    char room[256] = "....";
+
+    SAME(filgordd_json(&s, room, sizeof room, &wanted), FILGORDD_CLOSED);
+    SAME(open_text(&s, "a;"), FILGORDD_OK);
+    SAME(filgordd_json(&s, room, sizeof room, &wanted), FILGORDD_NOTHING);
+    SAME(wanted, 7);
+    SAME(memcmp(room, "....", 4), 0);
+    SAME(filgordd_expand(&s), FILGORDD_OK);
+    SAME(filgordd_json(&s, NULL, 0, &wanted), FILGORDD_ROOM);
+    SAME(wanted, strlen(read));
+    SAME(filgordd_json(&s, room, wanted - 1, &wanted), FILGORDD_ROOM);
+    SAME(memcmp(room, "....", 4), 0);
+    SAME(filgordd_json(&s, NULL, 1, &wanted), FILGORDD_NULL);
+    SAME(filgordd_json(&s, room, sizeof room, NULL), FILGORDD_NULL);
+    SAME(filgordd_json(NULL, room, sizeof room, &wanted), FILGORDD_NULL);
+    SAME(filgordd_json(&s, room, sizeof room, &wanted), FILGORDD_OK);
+    SAME(wanted, strlen(read));
+    SAME(memcmp(room, read, wanted), 0);
+    SAME(filgordd_edit(&s, 3, 3, "b", 1), FILGORDD_RANGE);
+    SAME(filgordd_json(&s, room, sizeof room, &wanted), FILGORDD_OK);
+    SAME(filgordd_edit(&s, 2, 2, "(", 1), FILGORDD_OK);
+    SAME(filgordd_json(&s, room, sizeof room, &wanted), FILGORDD_NOTHING);
+    SAME(filgordd_expand(&s), FILGORDD_UNREAD);
+    SAME(filgordd_json(&s, room, sizeof room, &wanted), FILGORDD_OK);
+    SAME(memcmp(room, unread, strlen(unread)), 0);
+    filgordd_close(&s);
+}
+
 static uint32_t read_source(struct filgordd_session *s, uint32_t number, const char *root, const char *text,
                             struct filgordd_source_told *into) {
     return filgordd_source(s, number, root, strlen(root), 2021, text, strlen(text), into);
@@ -505,6 +541,7 @@ int main(int argc, char **argv) {
     limits();
     conditions();
     codes();
+    json_lines();
     sources();
     words_and_positions();
     for (int way = 0; way < 4; way++)

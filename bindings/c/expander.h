@@ -66,6 +66,7 @@
 #define expander_raw_expand filgordd_raw_expand
 #define expander_raw_counts filgordd_raw_counts
 #define expander_raw_printed filgordd_raw_printed
+#define expander_raw_json filgordd_raw_json
 #define expander_raw_fault filgordd_raw_fault
 #define expander_raw_reading_fault filgordd_raw_reading_fault
 #define expander_raw_origins filgordd_raw_origins
@@ -88,6 +89,7 @@
 #define expander_edit filgordd_edit
 #define expander_expand filgordd_expand
 #define expander_printed filgordd_printed
+#define expander_json filgordd_json
 #define expander_reading_fault filgordd_reading_fault
 #define expander_origins filgordd_origins
 #define expander_token_ranges filgordd_token_ranges

@@ -49,7 +49,7 @@
  *
  * Codes. Each function but filgordd_close returns one. A call that is refused changes nothing: neither
  * the session, nor its answer, nor what the pointers point to, except for the wanted length of a
- * text. No call ends the program, unwinds, reads or writes a file, or starts a thread.
+ * text or line. No call ends the program, unwinds, reads or writes a file, or starts a thread.
  *
  * Proved. The library is proved, under the caller's part of the bargain, which nothing checks: what is
  * said above of memory, and that nobody writes a session's struct. The proofs are of a session that stays
@@ -196,6 +196,7 @@ uint32_t filgordd_raw_edit(struct filgordd_session *, size_t, size_t, const uint
 uint32_t filgordd_raw_expand(struct filgordd_session *);
 uint32_t filgordd_raw_counts(struct filgordd_session *, struct filgordd_counts *);
 uint32_t filgordd_raw_printed(struct filgordd_session *, uint8_t *, size_t);
+uint32_t filgordd_raw_json(struct filgordd_session *, uint8_t *, size_t, size_t *);
 uint32_t filgordd_raw_fault(struct filgordd_session *, size_t, struct filgordd_fault *);
 uint32_t filgordd_raw_reading_fault(struct filgordd_session *, struct filgordd_fault *);
 uint32_t filgordd_raw_origins(struct filgordd_session *, struct filgordd_range *, size_t);
@@ -298,6 +299,16 @@ static inline uint32_t filgordd_printed(struct filgordd_session *s, void *room, 
     uint8_t none = 0;
     if (!s || (!room && len)) return FILGORDD_NULL;
     return filgordd_raw_printed(s, room ? (uint8_t *)room : &none, len);
+}
+
+/* The last answer as a line of JSON, an `expansion` or `unread` of docs/JSON.md, without a line feed: its length to
+ * `*wanted`, and its bytes to the beginning of the room. NOTHING if the text was edited since. `room` is to `len` bytes,
+ * which may be more than the line has, and `wanted` to a length. The line is made at each call.
+ * OK, CLOSED, NOTHING, LENGTH (the printed text has more than 4,294,967,295 bytes), MEMORY, ROOM, NULL. */
+static inline uint32_t filgordd_json(struct filgordd_session *s, void *room, size_t len, size_t *wanted) {
+    uint8_t none = 0;
+    if (!s || !wanted || (!room && len)) return FILGORDD_NULL;
+    return filgordd_raw_json(s, room ? (uint8_t *)room : &none, len, wanted);
 }
 
 /* The fault of this index, in order of start, end and kind. `into` is to one struct.

@@ -42,8 +42,9 @@ void __wrap_free(void *p) {
 
 /* ---- the script */
 
-/* OPEN opens by the rules of scopes `start`, if `end` is not 0 under options for `cfg`. SOURCE reads a source of number `start`, of the crate `std` if `end` is not 0; PRELUDE picks all of that number. */
-enum call { OPEN, EDIT, EXPAND, SOURCE, PRELUDE };
+/* OPEN opens by the rules of scopes `start`, if `end` is not 0 under options for `cfg`. SOURCE reads a source of number `start`, of the crate `std` if `end` is not 0; PRELUDE picks all of that number.
+ * JSON makes the line of the last answer. */
+enum call { OPEN, EDIT, EXPAND, JSON, SOURCE, PRELUDE };
 struct step {
     enum call call;
     size_t start, end;
@@ -55,6 +56,7 @@ static const struct step script[] = {
     {OPEN, 0, 0, MACROS "p!{ x y }\nq!(1 + 2, f(3), |x| { x });\nfn f() { p!(a 'b); }\n"},
     {EXPAND, 0, 0, ""},
     {EXPAND, 0, 0, ""},
+    {JSON, 0, 0, ""},
     {EDIT, 91, 92, "(z)"},                    /* an argument */
     {EXPAND, 0, 0, ""},
     {EDIT, 0, 0, "// in front\n/// and a doc\n"},
@@ -63,6 +65,7 @@ static const struct step script[] = {
     {EXPAND, 0, 0, ""},
     {EDIT, 0, 0, "("},                        /* a text that cannot be read */
     {EXPAND, 0, 0, ""},
+    {JSON, 0, 0, ""},
     {EDIT, 0, 1, ""},
     {EXPAND, 0, 0, ""},
     {OPEN, 0, 0, "macro_rules! t { ($($t:tt)*) => { $($t $t)* } }\nt!{ t!{ a \"b\" } 'c' }\nt!(t!(t!(d)));\n"},
@@ -90,7 +93,8 @@ static const struct step script[] = {
 #define STEPS (sizeof script / sizeof *script)
 
 static uint32_t make(struct filgordd_session *s, const struct step *it) {
-    size_t len = strlen(it->text);
+    static char line[1 << 12];
+    size_t len = strlen(it->text), wanted = 0;
     struct filgordd_source_told told = {0, {0, {0, 0}}};
     struct filgordd_pick all = {(uint32_t)it->start, FILGORDD_ALL};
     struct filgordd_options options = {2024, FILGORDD_GRAMMAR_RUST, (uint32_t)it->start, 128, 0, 0};
@@ -102,6 +106,7 @@ static uint32_t make(struct filgordd_session *s, const struct step *it) {
     case EDIT: return filgordd_edit(s, it->start, it->end, it->text, len);
     case SOURCE: return filgordd_source(s, all.source, "std", it->end ? 3 : 0, 2018, it->text, len, &told);
     case PRELUDE: return filgordd_prelude(s, &all, 1);
+    case JSON: return filgordd_json(s, line, sizeof line, &wanted);
     default: return filgordd_expand(s);
     }
 }

@@ -7,6 +7,7 @@ import ctypes
 import doctest
 import functools
 import gc
+import json
 import pickle
 import random
 import signal
@@ -51,6 +52,20 @@ def the_row():
         fault = Fault(FaultKind.CANNOT_EXPAND, Range(54, 55))
         faults = session.expand().faults
         assert list(faults) == [fault] and faults[-1] == fault and len(faults) == 1
+
+
+def json_lines():
+    with Session("a;") as session:
+        assert refusal(session.json) == Code.NOTHING
+        expansion = session.expand()
+        line = json.loads(session.json())
+        assert line["answer"] == "expansion" and line["text"] == expansion.printed == "a ;\n"
+        assert line["origins"] == [0, 0, 1, 0, 1, 2] and line["ranges"] == [0, 1, 2, 3]
+        session.edit(2, 2, "(")
+        assert refusal(session.json) == Code.NOTHING
+        assert raises(Unread, session.expand)
+        assert json.loads(session.json())["kind"] == "GroupLeftOpen"
+    assert refusal(session.json) == Code.CLOSED
 
 
 def grammars():
@@ -414,7 +429,7 @@ def random_edits(count):
     assert read >= count // 3
 
 
-for check in (the_row, grammars, scopes, limits, conditions, codes, sources, words_and_positions, first_name, items, numbers, once, shared, meanwhile, within, left):
+for check in (the_row, json_lines, grammars, scopes, limits, conditions, codes, sources, words_and_positions, first_name, items, numbers, once, shared, meanwhile, within, left):
     check()
 random_edits(int(sys.argv[1]) if len(sys.argv) > 1 else 1000)
 sys.exit(doctest.testmod(filgordd).failed)

@@ -414,6 +414,7 @@ def _load() -> ctypes.CDLL:
         "expand": [],
         "counts": [ctypes.POINTER(_Counts)],
         "printed": [text, size],
+        "json": [text, size, ctypes.POINTER(size)],
         "fault": [size, ctypes.POINTER(_Fault)],
         "reading_fault": [ctypes.POINTER(_Fault)],
         "origins": [numbers, size],
@@ -612,14 +613,23 @@ class Session:
     @property
     def text(self) -> str:
         """The text."""
-        wanted = ctypes.c_size_t()
         with self._turn():
-            try:
-                self._call("text", b"", 0, ctypes.byref(wanted))
-            except Refused as refused:
-                if refused.code != Code.ROOM:
-                    raise
-            return self._copied("text", wanted.value, ctypes.byref(wanted))
+            return self._line("text")
+
+    def json(self) -> str:
+        """The last answer as a line of JSON. Refused as NOTHING if the text was edited since."""
+        with self._turn():
+            return self._line("json")
+
+    def _line(self, name: str) -> str:
+        """What a call tells whose length it tells too."""
+        wanted = ctypes.c_size_t()
+        try:
+            self._call(name, b"", 0, ctypes.byref(wanted))
+        except Refused as refused:
+            if refused.code != Code.ROOM:
+                raise
+        return self._copied(name, wanted.value, ctypes.byref(wanted))
 
     def _copied(self, name: str, length: int, *more: object) -> str:
         room = ctypes.create_string_buffer(length + 1)

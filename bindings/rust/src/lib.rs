@@ -34,6 +34,8 @@ use std::ops::Range;
 use words::Words;
 
 const UNREAD: u32 = 1;
+const NOTHING: u32 = 12;
+const ROOM: u32 = 14;
 
 /// The version of the library, which is that of this crate.
 ///
@@ -461,6 +463,33 @@ impl Session {
                 Ok(Reply::Read(Expansion::of(self)))
             }
         }
+    }
+
+    /// The last answer as a line of JSON, an `expansion` or `unread` of docs/JSON.md, without a line
+    /// feed. `None` if the text was not expanded yet, or was edited since. It is made at each call.
+    ///
+    /// ```
+    /// # use filgordd::{Edition, Session};
+    /// let mut session = Session::new("a;", Edition::Edition2024, 128)?;
+    /// session.expand()?;
+    /// let line = session.json()?.expect("the text was expanded");
+    /// assert!(line.starts_with(r#"{"answer":"expansion","expanded":1,"#));
+    /// session.edit(0..1, "b")?;
+    /// assert_eq!(session.json()?, None);
+    /// # Ok::<(), filgordd::Error>(())
+    /// ```
+    pub fn json(&self) -> Result<Option<String>, Error> {
+        let (mut none, mut len) = (0, 0);
+        // SAFETY: there is room for 0 bytes, and for the length.
+        match unsafe { sys::filgordd_raw_json(self.at(), &mut none, 0, &mut len) } {
+            NOTHING => return Ok(None),
+            ROOM => {}
+            code => checked(code)?,
+        }
+        let mut bytes = vec![0; len];
+        // SAFETY: there is room for as many bytes as are said.
+        checked(unsafe { sys::filgordd_raw_json(self.at(), bytes.as_mut_ptr(), len, &mut len) })?;
+        Ok(Some(String::from_utf8(bytes).expect("a line of JSON is UTF-8")))
     }
 
     fn reading_fault(&self) -> ReadFault {

@@ -99,6 +99,7 @@ unsafe extern "C" {
     pub fn filgordd_raw_expand(s: *mut Session) -> u32;
     pub fn filgordd_raw_counts(s: *mut Session, into: *mut Counts) -> u32;
     pub fn filgordd_raw_printed(s: *mut Session, room: *mut u8, len: usize) -> u32;
+    pub fn filgordd_raw_json(s: *mut Session, room: *mut u8, len: usize, wanted: *mut usize) -> u32;
     pub fn filgordd_raw_fault(s: *mut Session, index: usize, into: *mut Fault) -> u32;
     pub fn filgordd_raw_reading_fault(s: *mut Session, into: *mut Fault) -> u32;
     pub fn filgordd_raw_origins(s: *mut Session, room: *mut Range, len: usize) -> u32;

@@ -1,7 +1,9 @@
 //! Cuts a piece out of a text's trees, as a tree with piece-relative spans.
-ghost use Rattle.std.specs.Prelude.{◌≡◌, ◌≢◌, ◌↔◌, ◌⊎◌, ◌<◌, [], false, Err, IfOk, IfErr, IsOkUnless};
+ghost use Rattle.std.specs.Prelude.{◌≡◌, ◌≢◌, ◌↔◌, ◌⊎◌, ◌<◌, [], false, Err, IfOk, IfErr};
+ghost use Rattle.std.specs.Prelude.{IsOkUnless};
 ghost use Rattle.bridge.specs.PieceTokens.{alone_token, ends_in_leaf, last_token_alone};
-ghost use Rattle.bridge.specs.Pieces.{IsFrom, StandsBehindFirst, StandsFrom, first_start, moved_back, piece_of, relative};
+ghost use Rattle.bridge.specs.Pieces.{IsFrom, StandsBehindFirst, StandsFrom, first_start};
+ghost use Rattle.bridge.specs.Pieces.{moved_back, piece_of, relative};
 ghost use Rattle.bridge.specs.ReadText.{text_top};
 ghost use Rattle.tt.specs.Building.{most_tokens};
 ghost use Rattle.tt.specs.Tops.{Top, tokens_of};
@@ -91,7 +93,8 @@ fn head(len: u32) -> TokenTree
 // The tokens of the tree that has these trees inside, with spans counted from the first token.
 fn moved_tokens(alloc: Global, view: TokenTreesView<'_>) -> Result<Vec<TokenTree>, TtFault>
     requires { StandsBehindFirst (forest view) }
-    ensures ok { IfOk result (λ tokens. tokens.items ≡ tokens_of (record { delimiter = text_top; inner = relative (forest view.entry) })) }
+    ensures ok { IfOk result (λ tokens. tokens.items
+        ≡ tokens_of (record { delimiter = text_top; inner = relative (forest view.entry) })) }
     ensures tokens { (result ≡ Err fault.Tokens) ↔ (most_tokens < size (forest view.entry)) }
     ensures faults { IfErr result (λ e. (e ≡ fault.Memory) ⊎ (e ≡ fault.Tokens)) }
 {

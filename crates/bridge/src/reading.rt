@@ -1,8 +1,10 @@
 //! Reads the tokens of a text as trees. Each token is classified, and added to the trees under
 //! construction as a leaf, a doc comment or a bracket.
-ghost use Rattle.std.specs.Prelude.{◌≡◌, ◌≢◌, ◌+◌, ◌<◌, ◌≤◌, ◌^◌, ℕ, List, [], length, drop, chars, true, false, IfOk, IfErr, OnOk};
+ghost use Rattle.std.specs.Prelude.{◌≡◌, ◌≢◌, ◌+◌, ◌<◌, ◌≤◌, ◌^◌, ℕ, List, [], length, drop, chars};
+ghost use Rattle.std.specs.Prelude.{true, false, IfOk, IfErr, OnOk};
 ghost use Rattle.bridge.specs.Parts.{begins_with_mark, part_steps};
-ghost use Rattle.bridge.specs.ReadSteps.{IsClosed, IsRefusal, IsStepRefusal, MayCut, Takes, first_kind, spacing_at, steps_at, steps_in, trees_of};
+ghost use Rattle.bridge.specs.ReadSteps.{IsClosed, IsRefusal, IsStepRefusal, MayCut, Takes};
+ghost use Rattle.bridge.specs.ReadSteps.{first_kind, spacing_at, steps_at, steps_in, trees_of};
 ghost use Rattle.bridge.specs.ReadText.{IsRead, IsReadRefusal, text_top};
 ghost use Rattle.bridge.specs.Reading.{DoesNotFit, IsFault, PlacedToken, placed_from, range_of};
 ghost use Rattle.bridge.specs.TokenSteps.{class_of, is_mark, steps_of_class, text_steps};
@@ -59,8 +61,10 @@ fn add_trees(
     requires some { range.start < range.«end» }
     requires short { length text.now < 2 ^ 32 }
     requires cut { MayCut class text.now }
-    ensures ok { OnOk result (builder.new.tree ≡ extended builder.old.tree (trees_of class text.now range next)) }
-    ensures refused { IfErr result (IsRefusal (count_of builder.old.tree + size (trees_of class text.now range next))) }
+    ensures ok { OnOk result (builder.new.tree
+        ≡ extended builder.old.tree (trees_of class text.now range next)) }
+    ensures refused { IfErr result (IsRefusal
+        (count_of builder.old.tree + size (trees_of class text.now range next))) }
 {
     let span = written_at(range);
     match class {
@@ -80,7 +84,8 @@ fn add_trees(
 // Closes the innermost open group if a closing of this kind fits it, and answers whether it does.
 fn close_innermost(builder: &mut TopSubtreeBuilder, kind: DelimiterKind, range: TextRange) -> bool
     ensures closed { result ≡ true → IsClosed kind range builder.old.tree builder.new.tree }
-    ensures kept { result ≡ false → (builder.new.tree ≡ builder.old.tree) × DoesNotFit kind builder.old.tree.groups }
+    ensures kept { result ≡ false → (builder.new.tree ≡ builder.old.tree) × DoesNotFit kind
+        builder.old.tree.groups }
 {
     match builder.innermost() {
         Some((open, _)) if open == kind => builder.close(written_at(range)).is_ok(),
@@ -163,7 +168,8 @@ fn whole(builder: TopSubtreeBuilder) -> Read
 
 // The kind of the first of the tokens, if there is one.
 fn first_kind(tokens: &[Token]) -> Option<TokenKind>
-    ensures { (start : ℕ) (text : List ℕ) → first_kind (placed_from start text tokens.now) ≡ result }
+    ensures { (start : ℕ) (text : List ℕ) →
+        first_kind (placed_from start text tokens.now) ≡ result }
 {
     let first = tokens.first()?;
     Some(first.kind)
@@ -190,8 +196,10 @@ fn add_token(
 ) -> Result<Option<ReadFault>, TtFault>
     requires small { length text.now < 2 ^ 32 }
     requires here { IsTokenAt text.now start token }
-    ensures takes { IfOk result (Takes (steps_at text.now start token more.now) builder.old.tree builder.new.tree) }
-    ensures refused { IfErr result (IsStepRefusal (steps_at text.now start token more.now) builder.old.tree) }
+    ensures takes { IfOk result (Takes (steps_at text.now start token more.now) builder.old.tree
+        builder.new.tree) }
+    ensures refused { IfErr result (IsStepRefusal (steps_at text.now start token more.now)
+        builder.old.tree) }
 {
     laws::token_shapes();
     laws::suffix_starts();
@@ -252,7 +260,8 @@ pub fn read_part(
     requires tokens { AreTokensFrom text.now start tokens.now }
     requires within { count ≤ length tokens.now }
     ensures read { IfOk result (IsRead (part_steps 0 count (drop start text.now) tokens.now)) }
-    ensures refused { IfErr result (IsReadRefusal (part_steps 0 count (drop start text.now) tokens.now)) }
+    ensures refused { IfErr result (IsReadRefusal
+        (part_steps 0 count (drop start text.now) tokens.now)) }
 {
     read_first(names, &text[start as usize..], tokens, count)
 }

@@ -1,5 +1,6 @@
 //! The list of bytes.
-ghost use Rattle.std.specs.Prelude.{◌≡◌, [], ◌+◌, ◌*◌, ◌^◌, ◌<◌, ◌≤◌, ◌++◌, List, ℕ, length, take, drop, OnOk, OnErr};
+ghost use Rattle.std.specs.Prelude.{◌≡◌, [], ◌+◌, ◌*◌, ◌^◌, ◌<◌, ◌≤◌, ◌++◌, List, ℕ, length, take};
+ghost use Rattle.std.specs.Prelude.{drop, OnOk, OnErr};
 ghost use Rattle.std.specs.Mem.Slots.{slots_items, slots_len};
 ghost use Rattle.byte_buffer.specs.Blocks.{IsOneOf};
 ghost use Rattle.byte_buffer.specs.Places.{HoldsFirst, IsTwice, KeepsFirst};
@@ -102,7 +103,8 @@ impl ByteBuffer {
     /// Writes bytes over those from the index `at` on. It takes no memory.
     pub fn patch(&mut self, at: usize, over: &[u8])
         requires { at + length over.now ≤ length self.old }
-        ensures { self.new ≡ take at self.old ++ (over.now ++ drop (at + length over.now) self.old) }
+        ensures { self.new ≡ take at self.old
+            ++ (over.now ++ drop (at + length over.now) self.old) }
     {
         self.block.places.copy_in(at, over);
     }

@@ -28,31 +28,35 @@ ident_first (leaf (as_leaf.Literal l) r) name rest e = absurd (cc e)
 ident_first (group d inner r) name rest e = absurd (cc e)
 ident_first empty name rest e = absurd (cc e)
 
-by_string : (b : Bool) (m l : LiteralParts) (name v : List ℕ) → b >> Some m ≡ Some l → string_text l ≡ Some v
-    → b >> (string_text m >>= λ value. valued name value) ≡ valued name v
-by_string true m l name v e h =
+-- an option with a value, if the string has one
+abbrev pub with_string : List ℕ → Option (List ℕ) → Option (List ℕ × Option (List ℕ))
+with_string name text = text >>= λ value. valued name value
+
+by_string : (b : Bool) (m l : LiteralParts) (name : List ℕ) → b >> Some m ≡ Some l
+    → b >> with_string name (string_text m) ≡ with_string name (string_text l)
+by_string true m l name e =
     let same : m ≡ l = cc e in
-    ap (λ x. string_text x >>= λ value. valued name value) same ∙ ap (λ o. o >>= λ value. valued name value) h
-by_string false m l name v e h = absurd (cc e)
+    ap (λ x. with_string name (string_text x)) same
+by_string false m l name e = absurd (cc e)
 
-with_value : (name : Ident) (rest : Forest) (l : LiteralParts) (v : List ℕ) → is_option_name name ≡ true → value_in rest ≡ Some l → string_text l ≡ Some v
-    → option_in string_text (leaf (as_leaf.Ident name) rest) ≡ valued name.sym v
-with_value name (leaf (as_leaf.Punct p) (leaf (as_leaf.Literal m) empty)) l v n e h =
-    ap (λ b. b >> (is_char "=" p >> (string_text m >>= λ value. valued name.sym value))) n
-    ∙ by_string (is_char "=" p) m l name.sym v e h
-with_value name (leaf (as_leaf.Punct p) (leaf (as_leaf.Literal m) (leaf k r))) l v n e h = absurd (cc e)
-with_value name (leaf (as_leaf.Punct p) (leaf (as_leaf.Literal m) (group d a r))) l v n e h = absurd (cc e)
-with_value name (leaf (as_leaf.Punct p) (leaf (as_leaf.Ident i) r)) l v n e h = absurd (cc e)
-with_value name (leaf (as_leaf.Punct p) (leaf (as_leaf.Punct q) r)) l v n e h = absurd (cc e)
-with_value name (leaf (as_leaf.Punct p) (group d a r)) l v n e h = absurd (cc e)
-with_value name (leaf (as_leaf.Punct p) empty) l v n e h = absurd (cc e)
-with_value name (leaf (as_leaf.Ident i) r) l v n e h = absurd (cc e)
-with_value name (leaf (as_leaf.Literal m) r) l v n e h = absurd (cc e)
-with_value name (group d a r) l v n e h = absurd (cc e)
-with_value name empty l v n e h = absurd (cc e)
+with_value : (name : Ident) (rest : Forest) (l : LiteralParts) → is_option_name name ≡ true → value_in rest ≡ Some l
+    → option_in string_text (leaf (as_leaf.Ident name) rest) ≡ with_string name.sym (string_text l)
+with_value name (leaf (as_leaf.Punct p) (leaf (as_leaf.Literal m) empty)) l n e =
+    ap (λ b. b >> (is_char "=" p >> with_string name.sym (string_text m))) n ∙ by_string (is_char "=" p) m l name.sym e
+with_value name (leaf (as_leaf.Punct p) (leaf (as_leaf.Literal m) (leaf k r))) l n e = absurd (cc e)
+with_value name (leaf (as_leaf.Punct p) (leaf (as_leaf.Literal m) (group d a r))) l n e = absurd (cc e)
+with_value name (leaf (as_leaf.Punct p) (leaf (as_leaf.Ident i) r)) l n e = absurd (cc e)
+with_value name (leaf (as_leaf.Punct p) (leaf (as_leaf.Punct q) r)) l n e = absurd (cc e)
+with_value name (leaf (as_leaf.Punct p) (group d a r)) l n e = absurd (cc e)
+with_value name (leaf (as_leaf.Punct p) empty) l n e = absurd (cc e)
+with_value name (leaf (as_leaf.Ident i) r) l n e = absurd (cc e)
+with_value name (leaf (as_leaf.Literal m) r) l n e = absurd (cc e)
+with_value name (group d a r) l n e = absurd (cc e)
+with_value name empty l n e = absurd (cc e)
 
--- a name, `=` and a string
-pub valued_is : (f : Forest) (name : Ident) (rest : Forest) (l : LiteralParts) (v : List ℕ)
-    → first_ident f ≡ named name rest → is_option_name name ≡ true → value_in rest ≡ Some l → string_text l ≡ Some v
-    → option_in string_text f ≡ valued name.sym v
-valued_is f name rest l v e n h s = ap (option_in string_text) (ident_first f name rest e) ∙ with_value name rest l v n h s
+-- a name, `=` and a literal
+pub valued_is : (f : Forest) (name : Ident) (rest : Forest) (l : LiteralParts) (text : Option (List ℕ))
+    → first_ident f ≡ named name rest → is_option_name name ≡ true → value_in rest ≡ Some l → string_text l ≡ text
+    → option_in string_text f ≡ with_string name.sym text
+valued_is f name rest l text e n h s =
+    ap (option_in string_text) (ident_first f name rest e) ∙ with_value name rest l n h ∙ ap (with_string name.sym) s

@@ -1,7 +1,8 @@
 //! Members of parameters.
 ghost use Rattle.std.specs.Prelude.{◌≡◌, option_map};
 ghost use Rattle.serde_json.specs.View.{view};
-ghost use Rattle.client_texts.specs.Params.{integer_at, number_at, place_at, place_of, text_at, uri_of, version_of};
+ghost use Rattle.client_texts.specs.Params.{integer_at, number_at, place_at, place_of, text_at};
+ghost use Rattle.client_texts.specs.Params.{uri_of, version_of};
 ghost use Rattle.client_texts.specs.Views.{place_view};
 
 use line_index::Position;

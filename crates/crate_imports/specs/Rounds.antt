@@ -113,6 +113,7 @@ module _ (parents : List (Option ℕ)) (k : Offered) where
   behind_event o at (event.Inline m n) = behind_module o m at.child at.within
   behind_event o at (event.Import i) = behind_import o i (option_map string_bytes i.name) at
   behind_event o at (event.Crate c) = o
+  behind_event o at event.MacroUse = o
 
   abbrev pub behind_found : Offered → Declared → Option Event → Offered
   behind_found o at None = o

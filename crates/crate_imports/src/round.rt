@@ -260,7 +260,7 @@ fn pass_event(
         Event::Outline(item) => pass_module(alloc, next, item, at),
         Event::Inline(item, _) => pass_module(alloc, next, item, at),
         Event::Import(item) => pass_import(alloc, before, next, item, at),
-        Event::Crate(_) => Ok(()),
+        Event::Crate(_) | Event::MacroUse => Ok(()),
     }
 }
 

@@ -13,8 +13,9 @@ use Rattle.bridge.specs.declared.reading.outcome.ReadFault.{ReadFault}
 use Rattle.cfg_options.specs.Conditions.{Options}
 use Rattle.small_grammar.specs.Text.{same_text}
 use Rattle.tt_data.specs.Forest.{Forest, empty}
+use Rattle.crate_items.specs.Attributes.{found_in}
 use Rattle.crate_items.specs.Imports.{tree_imports}
-use Rattle.crate_items.specs.Items.{Item, definition, import, inline, items_within, other, outline}
+use Rattle.crate_items.specs.Items.{Item, definition, import, inline, items_within, macro_use, other, outline}
 
 -- the trees of a text
 abbrev trees : Result Forest ReadFault → Forest
@@ -35,7 +36,7 @@ items text = items_within unix 3 (trees (text_reading text))
 modules_in_files :
     items (codes "#[path = \"x\\x2fy.rs\"] pub(crate) mod r#a;")
     ≡ outline (record { name = codes "a"; path = Some (utf8_lossy (codes "x/y.rs")); keeps_macros = false; range = record { start = 37; «end» = 40 } }) ∷ []
-unfolding chars is_utf8 is_xid_start is_xid_continue in_ranges xid_start_ranges xid_continue_ranges encode_utf8 tree_imports
+unfolding chars is_utf8 is_xid_start is_xid_continue in_ranges xid_start_ranges xid_continue_ranges encode_utf8 tree_imports found_in
 modules_in_files = refl
 
 -- an inline module, and how many items are in it
@@ -44,15 +45,30 @@ inline_modules :
     ≡ inline (record { name = codes "a"; path = None; keeps_macros = true; range = record { start = 17; «end» = 18 } }) 1
     ∷ inline (record { name = codes "b"; path = None; keeps_macros = false; range = record { start = 25; «end» = 26 } }) 0
     ∷ outline (record { name = codes "d"; path = None; keeps_macros = false; range = record { start = 55; «end» = 56 } }) ∷ []
-unfolding chars is_utf8 is_xid_start is_xid_continue in_ranges xid_start_ranges xid_continue_ranges encode_utf8 tree_imports
+unfolding chars is_utf8 is_xid_start is_xid_continue in_ranges xid_start_ranges xid_continue_ranges encode_utf8 tree_imports found_in
 inline_modules = refl
 
 -- what `cfg` leaves out is not there
 conditions :
     items (codes "#[cfg(windows)] mod a { mod b; } #[cfg(unix)] mod c;")
     ≡ outline (record { name = codes "c"; path = None; keeps_macros = false; range = record { start = 50; «end» = 51 } }) ∷ []
-unfolding chars is_utf8 is_xid_start is_xid_continue in_ranges xid_start_ranges xid_continue_ranges encode_utf8 tree_imports
+unfolding chars is_utf8 is_xid_start is_xid_continue in_ranges xid_start_ranges xid_continue_ranges encode_utf8 tree_imports found_in
 conditions = refl
+
+-- a `cfg_attr` stands for its attributes where its predicate is true
+paths_under_conditions :
+    items (codes "#[cfg_attr(unix, path = \"u\")] mod a; #[cfg_attr(windows, path = \"w\")] mod b;")
+    ≡ outline (record { name = codes "a"; path = Some (utf8_lossy (codes "u")); keeps_macros = false; range = record { start = 34; «end» = 35 } })
+    ∷ outline (record { name = codes "b"; path = None; keeps_macros = false; range = record { start = 74; «end» = 75 } }) ∷ []
+unfolding chars is_utf8 is_xid_start is_xid_continue in_ranges xid_start_ranges xid_continue_ranges encode_utf8 tree_imports found_in
+paths_under_conditions = refl
+
+-- an inner attribute is an item of the module that it is in
+inner_attributes :
+    items (codes "#![macro_use] mod a { }")
+    ≡ macro_use ∷ inline (record { name = codes "a"; path = None; keeps_macros = false; range = record { start = 18; «end» = 19 } }) 0 ∷ []
+unfolding chars is_utf8 is_xid_start is_xid_continue in_ranges xid_start_ranges xid_continue_ranges encode_utf8 tree_imports found_in
+inner_attributes = refl
 
 -- ---- definitions and other crates
 

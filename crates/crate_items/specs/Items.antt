@@ -1,10 +1,10 @@
 -- What a text declares, item by item. (The Rust Reference, "Modules", "Macros By Example", "Extern
 -- crate declarations".)
-use Rattle.std.specs.Prelude.{ℕ, zero, suc, Bool, List, [], ◌∷◌, ◌++◌, codes, flat_map, length, map, Option, Some, None, option_map, string_bytes, Vec, if◌then◌else◌}
+use Rattle.std.specs.Prelude.{ℕ, zero, suc, Bool, List, [], ◌∷◌, ◌++◌, codes, flat_map, length, map, Option, Some, None, is_some, option_map, string_bytes, Vec, if◌then◌else◌}
 use Rattle.std.specs.Global.{Global}
 use Rattle.cfg_options.specs.Conditions.{Options, is_kept}
 use Rattle.cfg_options.specs.Strings.{string_text}
-use Rattle.crate_items.specs.Attributes.{path_of}
+use Rattle.crate_items.specs.Attributes.{attribute_of, is_inner, path_of}
 use Rattle.expander_model.specs.Definitions.{has_attribute}
 use Rattle.crate_items.specs.ImportEvents.{import_of}
 use Rattle.crate_items.specs.Imports.{Import, imports_of}
@@ -44,13 +44,15 @@ pub record Other : Type 0 where
   pub keeps_macros : Bool
   pub range : TextRange
 
--- an item; an inline module has so many of the next ones in it
+-- an item, or the attribute of a module by which its definitions stay in scope after it; an inline
+-- module has so many of the next ones in it
 pub data Item : Type 0 where
   outline : Module → Item
   inline : Module → ℕ → Item
   definition : Macro → Item
   import : Import → Item
   other : Other → Item
+  macro_use : Item
 
 -- ---- items as events
 
@@ -87,6 +89,7 @@ item_of (event.Inline m n) = inline (module_of m) n
 item_of (event.Macro m) = definition (macro_of m)
 item_of (event.Import i) = import (import_of i)
 item_of (event.Crate c) = other (other_of c)
+item_of event.MacroUse = macro_use
 
 -- a list of events
 abbrev pub items_of_events : Vec Event Global → List Item
@@ -100,11 +103,11 @@ listed f None = []
 listed f (Some a) = f a ∷ []
 
 -- the module of this name that a piece is
-abbrev pub module_at : Forest → Ident → Module
-module_at piece name = record {
+abbrev pub module_at : Options → Forest → Ident → Module
+module_at options piece name = record {
   name = name.sym;
-  path = path_of piece;
-  keeps_macros = has_attribute (codes "macro_use") piece;
+  path = path_of options piece;
+  keeps_macros = is_some (attribute_of options (codes "macro_use") piece);
   range = name.span.range;
 }
 
@@ -150,9 +153,10 @@ behind_name items m rest =
     if is_semicolon rest then outline m ∷ [] else in_braces items m (braced rest)
 
 -- the module with this head that a piece is, if it has one
-abbrev pub with_head : (Forest → List Item) → Forest → Option (Ident × Forest) → List Item
-with_head items piece None = []
-with_head items piece (Some head) = behind_name items (module_at piece head.0) head.1
+abbrev pub with_head : Options → (Forest → List Item) → Forest → Option (Ident × Forest) → List Item
+with_head options items piece None = []
+with_head options items piece (Some head) =
+    behind_name items (module_at options piece head.0) head.1
 
 -- the items that a piece is but for modules
 abbrev pub own_items : Forest → List Item
@@ -160,15 +164,21 @@ own_items piece =
     listed definition (macro_in piece)
     ++ (listed other (other_in piece) ++ map import (imports_of piece))
 
+-- the inner attribute that a piece is
+abbrev pub inner_items : Options → Forest → List Item
+inner_items options piece =
+    if is_inner options (codes "macro_use") piece then macro_use ∷ [] else []
+
 -- the items of a piece that is not left out, where `items` gives those of a module's trees
-abbrev pub kept_items : (Forest → List Item) → Forest → List Item
-kept_items items piece = own_items piece ++ with_head items piece (module_head piece)
+abbrev pub kept_items : Options → (Forest → List Item) → Forest → List Item
+kept_items options items piece =
+    own_items piece ++ (inner_items options piece ++ with_head options items piece (module_head piece))
 
 module _ (options : Options) where
   -- the items of a piece: none if its attributes leave it out
   abbrev pub piece_items : (Forest → List Item) → Forest → List Item
   piece_items items piece =
-      if is_kept options string_text piece then kept_items items piece else []
+      if is_kept options string_text piece then kept_items options items piece else []
 
   -- the items of some trees, with those of modules inside one another so many levels deep
   abbrev pub items_within : ℕ → Forest → List Item

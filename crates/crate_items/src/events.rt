@@ -1,10 +1,12 @@
 //! Events for single items.
 ghost use Rattle.std.specs.Prelude.{◌≡◌, IfOk, option_map, string_bytes};
+ghost use Rattle.cfg_options.specs.Options.{options_of};
 ghost use Rattle.crate_items.specs.Items.{macro_at, macro_in, macro_of, module_at, module_of};
 ghost use Rattle.crate_items.specs.Items.{other_at, other_in, other_of};
 
-use crate::attributes::path_of;
+use crate::attributes::{attribute_of, path_of};
 use crate::heads::{crate_alias, crate_head};
+use cfg_options::CfgOptions;
 use crate_walk::{CrateItem, MacroItem, ModuleItem};
 use expander_model::definition::{definition_of, has_attribute};
 use std::alloc::{AllocError, Global};
@@ -21,15 +23,18 @@ pub(crate) fn text(alloc: Global, name: &Ident) -> Result<String, AllocError>
 /// The module of this name that a piece is.
 pub(crate) fn module_at(
     alloc: Global,
+    options: &CfgOptions,
     piece: &TtIter<'_>,
     name: &Ident,
 ) -> Result<ModuleItem, AllocError>
-    ensures { IfOk result (λ m. module_of m ≡ module_at piece.now name.now) }
+    ensures { IfOk result (λ m. module_of m
+        ≡ module_at (options_of options.now) piece.now name.now) }
 {
+    let macro_use = attribute_of(options, piece, "macro_use")?;
     Ok(ModuleItem {
         name: text(alloc, name)?,
-        path: path_of(alloc, piece)?,
-        keeps_macros: has_attribute(piece, "macro_use"),
+        path: path_of(alloc, options, piece)?,
+        keeps_macros: macro_use.is_some(),
         start: name.span.range.start,
         end: name.span.range.end,
     })

@@ -3,10 +3,12 @@ ghost use Rattle.std.specs.Prelude.{◌≡◌, ◌++◌, ◌∷◌, IfOk, OnOk, 
 ghost use Rattle.cfg_options.specs.Options.{options_of};
 ghost use Rattle.expander_model.specs.Pieces.{cut};
 ghost use Rattle.crate_items.specs.Items.{definition, import, items_of_events, items_within};
-ghost use Rattle.crate_items.specs.Items.{kept_items, listed, macro_in, other, other_in, own_items};
+ghost use Rattle.crate_items.specs.Items.{inner_items, kept_items, listed, macro_in, other};
+ghost use Rattle.crate_items.specs.Items.{other_in, own_items};
 ghost use Rattle.crate_items.specs.Items.{piece_items, text_items, with_head};
 ghost use Rattle.crate_items.specs.Heads.{module_head};
 
+use crate::attributes::is_inner;
 use crate::events::{macro_in, module_at, other_in};
 use crate::heads::{braced, is_semicolon, module_head};
 use crate::imports::push_imports;
@@ -52,6 +54,21 @@ fn push_own(alloc: Global, piece: &TtIter<'_>, events: &mut Vec<Event>) -> Resul
     push_imports(alloc, piece, events)
 }
 
+// Adds that a piece is the inner attribute `macro_use`, if it is.
+fn push_inner(
+    options: &CfgOptions,
+    piece: &TtIter<'_>,
+    events: &mut Vec<Event>,
+) -> Result<(), AllocError>
+    ensures { OnOk result (items_of_events events.new
+        ≡ items_of_events events.old ++ inner_items (options_of options.now) piece.now) }
+{
+    if is_inner(options, piece, "macro_use")? {
+        events.push(Event::MacroUse)?;
+    }
+    Ok(())
+}
+
 // Adds the items of some trees, with those of modules inside one another so many levels deep.
 #[cycle(items)]
 fn push_within(
@@ -76,6 +93,7 @@ fn push_within(
 
 // Adds the items of a piece.
 #[cycle(items)]
+#[tactic(auto, using(crate::proofs::ItemLemmas::three_more))]
 fn push_piece(
     alloc: Global,
     options: &CfgOptions,
@@ -91,6 +109,7 @@ fn push_piece(
         return Ok(());
     }
     push_own(alloc, piece, events)?;
+    push_inner(options, piece, events)?;
     push_module(alloc, options, levels, piece, events)
 }
 
@@ -104,14 +123,14 @@ fn push_module(
     events: &mut Vec<Event>,
 ) -> Result<(), AllocError>
     ensures { OnOk result (items_of_events events.new ≡ items_of_events events.old
-        ++ with_head (items_within (options_of options.now) levels) piece.now
-        (module_head piece.now)) }
+        ++ with_head (options_of options.now) (items_within (options_of options.now) levels)
+        piece.now (module_head piece.now)) }
 {
     let Some((name, rest)) = module_head(piece) else {
         return Ok(());
     };
     if is_semicolon(&rest) {
-        events.push(Event::Outline(module_at(alloc, piece, &name)?))?;
+        events.push(Event::Outline(module_at(alloc, options, piece, &name)?))?;
         return Ok(());
     }
     let Some(inner) = braced(&rest) else {
@@ -119,7 +138,7 @@ fn push_module(
     };
     let mut inside = Vec::new(alloc);
     push_within(alloc, options, levels, &inner, &mut inside)?;
-    let item = module_at(alloc, piece, &name)?;
+    let item = module_at(alloc, options, piece, &name)?;
     events.push(Event::Inline(item, inside.len()))?;
     events.append(&mut inside)
 }

@@ -4,4 +4,6 @@ pub mod TableLemmas
 pub mod WalkLemmas
 pub mod ScopeLemmas
 pub mod CountLemmas
+pub mod ClosingLemmas
+pub mod JoinLemmas
 mod Rows

@@ -1,9 +1,15 @@
 -- Worked examples. Those on files were compared with rustc.
-use Rattle.std.specs.Prelude.{◌≡◌, codes, refl, Bool, true, false, [], ◌∷◌, Some, None}
-use Rattle.crate_walk.specs.Scopes.{Begun, ends, picks_at_end}
+use Rattle.std.specs.Prelude.{◌≡◌, codes, refl, Bool, true, false, List, [], ◌∷◌, Some, None}
+use Rattle.crate_walk.specs.Closing.{closes}
+use Rattle.crate_walk.specs.Scopes.{Begun, ends, kept, picks_at_end}
 use Rattle.crate_walk.specs.Seeking.{ambiguous, choice, found, missing, only}
 use Rattle.crate_walk.specs.Walks.{end_of}
+use Rattle.crate_walk.specs.WholeTexts.{IsWhole}
+use Rattle.crate_walk.specs.WholeTexts.Writes.{file, left, nothing}
 use Rattle.crate_walk.specs.declared.step.Place.{Place}
+use Rattle.crate_walk.specs.declared.step.Step.{Step}
+use Rattle.crate_walk.specs.declared.step.Step.TheVariants as step
+use Rattle.crate_walk.specs.declared.whole_text.FileText.{FileText}
 use Rattle.crate_walk.specs.Folders.{Folder, both, by_folder, by_name, by_path, folder_of, inside, root_folder}
 
 -- ---- the folder of a file
@@ -133,7 +139,52 @@ definitions_stay : ends (of_root ∷ of_a ∷ []) (in_a true ∷ [])
     ≡ record { places = of_root ∷ of_a ∷ []; begun = [] }
 definitions_stay = refl
 
+-- and with `#![macro_use]` in the module
+kept_in_the_module : kept (in_a false ∷ []) ≡ in_a true ∷ []
+kept_in_the_module = refl
+
 -- its file sees that of the root, and its own are none of the picks
 picks_are_of_other_files : picks_at_end (of_root ∷ of_a ∷ []) (in_a false ∷ [])
     ≡ record { file = 1; places = of_root ∷ [] } ∷ []
 picks_are_of_other_files = refl
+
+-- ---- whole texts
+
+-- a root with one module, which is the file 1
+one_module : List Step
+one_module = step.File (record { file = 0; event = 0 }) 1 ∷ step.End ∷ step.End ∷ []
+
+-- both modules end, and nothing follows the root
+both_end : closes 1 one_module ≡ true
+unfolding one_module
+both_end = refl
+
+-- without the last end the root is left open
+root_left_open : closes 1 (step.File (record { file = 0; event = 0 }) 1 ∷ step.End ∷ []) ≡ false
+root_left_open = refl
+
+module _ (root a : FileText) (is_root : root.text.items ≡ codes "mod a ;\n")
+    (ends_at : root.ends.items ≡ Some 6 ∷ []) (is_a : a.text.items ≡ codes "x\n") where
+  -- its file stands in the place of its `;`
+  file_in_its_place : IsWhole (Some root ∷ Some a ∷ []) one_module (codes "mod a {\nx\n}\n")
+  unfolding one_module
+  file_in_its_place = record {
+    inner = step.File (record { file = 0; event = 0 }) 1 ∷ step.End ∷ [];
+    front = _;
+    last = 7;
+    are = refl;
+    writes = file (Some 0) 0 6 0 7 _ 1 [] [] [] [] (rw (is_root, ends_at) refl) (nothing (Some 1) 0) (nothing (Some 0) 7);
+    whole = rw (is_root, is_a) refl;
+  }
+
+  -- without a text it leaves its module as it is
+  module_as_it_is : IsWhole (Some root ∷ None ∷ []) one_module (codes "mod a ;\n")
+  unfolding one_module
+  module_as_it_is = record {
+    inner = step.File (record { file = 0; event = 0 }) 1 ∷ step.End ∷ [];
+    front = [];
+    last = 0;
+    are = refl;
+    writes = left (Some 0) 0 0 0 _ 1 [] [] [] refl (nothing None 0) (nothing (Some 0) 0);
+    whole = rw is_root refl;
+  }

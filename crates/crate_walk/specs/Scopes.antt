@@ -1,6 +1,6 @@
 -- Which definitions are in scope by their place. (The Rust Reference, "Macros By Example": textual
 -- scope, the `macro_use` attribute.)
-use Rattle.std.specs.Prelude.{ℕ, Bool, false, not, nat_eq, List, [], ◌∷◌, ◌++◌, Option, Some, None, filter, option_map, unwrap_or, if◌then◌else◌}
+use Rattle.std.specs.Prelude.{ℕ, Bool, true, false, not, nat_eq, List, [], ◌∷◌, ◌++◌, Option, Some, None, filter, option_map, unwrap_or, if◌then◌else◌}
 use Rattle.crate_walk.specs.Files.{Files, event_of}
 use Rattle.crate_walk.specs.declared.event.Event.{Event}
 use Rattle.crate_walk.specs.declared.event.Event.TheVariants as event
@@ -19,6 +19,11 @@ abbrev pub keeps_macros : Event → Bool
 keeps_macros (event.Outline m) = m.keeps_macros
 keeps_macros (event.Inline m n) = m.keeps_macros
 keeps_macros e = false
+
+-- an item that says so of the module that it is in
+abbrev pub keeps_own : Event → Bool
+keeps_own event.MacroUse = true
+keeps_own e = false
 
 -- a test of the event at a place
 abbrev pub holds_at : (Event → Bool) → Files → Place → Bool
@@ -48,10 +53,20 @@ abbrev pub ends : List Place → List Begun → Scope
 ends places [] = record { places = places; begun = [] }
 ends places (o ∷ os) = record { places = if o.keeps then places else o.before; begun = os }
 
+-- the definitions of the innermost module stay in scope after it
+abbrev pub kept : List Begun → List Begun
+kept [] = []
+kept (o ∷ os) = record o { keeps = true } ∷ os
+
+-- an item that is no module is in scope, or keeps its module's definitions there, or neither
+abbrev pub passed : Scope → Place → Bool → Bool → Scope
+passed s p scoped true = record { places = s.places; begun = kept s.begun }
+passed s p true false = record { places = s.places ++ p ∷ []; begun = s.begun }
+passed s p false false = s
+
 -- what is in scope after a step
 abbrev pub after : Files → Scope → Step → Scope
-after files s (step.Item p) =
-    if holds_at is_scoped files p then record s { places = s.places ++ p ∷ [] } else s
+after files s (step.Item p) = passed s p (holds_at is_scoped files p) (holds_at keeps_own files p)
 after files s (step.Inline p) = begins s (holds_at keeps_macros files p) None
 after files s (step.File p k) = begins s (holds_at keeps_macros files p) (Some k)
 after files s (step.Lack p why) = s

@@ -75,4 +75,6 @@ pub enum Event {
     Import(ImportItem),
     /// `extern crate name;`
     Crate(CrateItem),
+    /// `#![macro_use]`: the definitions of the module that it is in stay in scope after that.
+    MacroUse,
 }

@@ -12,6 +12,7 @@ mod sought;
 mod step;
 mod table;
 mod walk;
+mod whole_text;
 
 pub use event::{CrateItem, Event, ImportItem, MacroItem, ModuleItem};
 pub use files::{Content, Files, Unread};
@@ -20,3 +21,4 @@ pub use modules::Modules;
 pub use scope::{Picks, textual_picks};
 pub use step::{Lack, Place, Step};
 pub use walk::walk_crate;
+pub use whole_text::{FileText, joined};

@@ -74,7 +74,7 @@ fn next_at<F: Files>(
             }
             Ok(Next::Outline(seek(alloc, files, folder, item)?))
         }
-        Event::Macro(_) | Event::Import(_) | Event::Crate(_) => Ok(Next::Item),
+        Event::Macro(_) | Event::Import(_) | Event::Crate(_) | Event::MacroUse => Ok(Next::Item),
     }
 }
 

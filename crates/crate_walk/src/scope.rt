@@ -1,11 +1,12 @@
 //! Which definitions are in scope by their place. (The Rust Reference, "Macros By Example": textual
 //! scope, the `macro_use` attribute.)
-ghost use Rattle.std.specs.Prelude.{◌≡◌, ◌++◌, ◌∷◌, [], IfOk, OnOk, if◌then◌else◌, filter, nat_eq};
+ghost use Rattle.std.specs.Prelude.{◌≡◌, ◌++◌, ◌∷◌, [], false, IfOk, OnOk, filter, nat_eq};
 ghost use Rattle.std.specs.Prelude.{not};
 ghost use Rattle.crate_walk.specs.Files.{Files};
 ghost use Rattle.crate_walk.specs.Marks.{IsMarked, all_picks, file_picks};
 ghost use Rattle.crate_walk.specs.Modules.{files_of, steps_of};
 ghost use Rattle.crate_walk.specs.Scopes.{Scope, after, at_root, holds_at, is_scoped, keeps_macros};
+ghost use Rattle.crate_walk.specs.Scopes.{keeps_own, kept, passed};
 ghost use Rattle.crate_walk.specs.Scopes.{begins, ends, picks_at, picks_at_end, picks_from};
 ghost use Rattle.crate_walk.specs.Scopes.{picks_of, picks_where};
 
@@ -74,6 +75,16 @@ fn is_scoped_at(modules: &Modules, place: Place) -> bool
     }
 }
 
+// Whether the item at a place keeps the definitions of its module in scope.
+fn keeps_own_at(modules: &Modules, place: Place) -> bool
+    ensures { result ≡ holds_at keeps_own (files_of modules.now) place }
+{
+    match modules.event(place) {
+        Some(Event::MacroUse) => true,
+        _ => false,
+    }
+}
+
 // Whether the definitions of the module at a place stay in scope after it.
 fn keeps_macros_at(modules: &Modules, place: Place) -> bool
     ensures { result ≡ holds_at keeps_macros (files_of modules.now) place }
@@ -110,15 +121,42 @@ fn enter(scope: &mut Marked, keeps: bool, file: Option<usize>) -> Result<(), All
     Ok(())
 }
 
+// The definitions of the innermost module stay in scope after it.
+fn keep(scope: &mut Marked) -> Result<(), AllocError>
+    ensures { OnOk result ((s : Scope) → IsMarked scope.old s
+        → IsMarked scope.new (record s { begun = kept s.begun })) }
+{
+    if let Some(mark) = scope.marks.pop_front() {
+        scope.marks.push_front(Mark {
+            keeps: true,
+            ..mark
+        })?;
+    }
+    Ok(())
+}
+
 // An item is in scope from here on, if it can be.
 fn pass(scope: &mut Marked, is_scoped: bool, place: Place) -> Result<(), AllocError>
-    ensures { OnOk result ((s : Scope) → IsMarked scope.old s → IsMarked scope.new
-        (if is_scoped then record s { places = s.places ++ place ∷ [] } else s)) }
+    ensures { OnOk result ((s : Scope) → IsMarked scope.old s
+        → IsMarked scope.new (passed s place is_scoped false)) }
 {
     if is_scoped {
         scope.places.push(place)?;
     }
     Ok(())
+}
+
+// Passes an item that is no module.
+fn pass_item(modules: &Modules, scope: &mut Marked, place: Place) -> Result<(), AllocError>
+    ensures { OnOk result ((s : Scope) → IsMarked scope.old s → IsMarked scope.new
+        (passed s place (holds_at is_scoped (files_of modules.now) place)
+        (holds_at keeps_own (files_of modules.now) place))) }
+{
+    if keeps_own_at(modules, place) {
+        keep(scope)
+    } else {
+        pass(scope, is_scoped_at(modules, place), place)
+    }
 }
 
 // Adds what the file of a module sees that ends, if it has one of its own.
@@ -168,7 +206,7 @@ fn pass_step(
         → all_picks picks.new ≡ all_picks picks.old ++ picks_at s step) }
 {
     match step {
-        Step::Item(place) => pass(scope, is_scoped_at(modules, place), place),
+        Step::Item(place) => pass_item(modules, scope, place),
         Step::Inline(place) => enter(scope, keeps_macros_at(modules, place), None),
         Step::File(place, file) => enter(scope, keeps_macros_at(modules, place), Some(file)),
         Step::Lack(_, _) => Ok(()),

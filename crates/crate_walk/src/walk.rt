@@ -1,9 +1,11 @@
 //! Walks through the modules of a crate.
-ghost use Rattle.std.specs.Prelude.{◌≡◌, ◌+◌, ◌-◌, ◌<◌, ◌++◌, ◌∷◌, [], IfOk, OnOk, length};
+ghost use Rattle.std.specs.Prelude.{◌≡◌, ◌+◌, ◌-◌, ◌<◌, ◌++◌, ◌∷◌, [], IfOk, IfSome, OnOk, length};
+ghost use Rattle.std.specs.Prelude.{true};
 ghost use Rattle.std.specs.Prelude.{string_bytes};
+ghost use Rattle.crate_walk.specs.Closing.{closes};
 ghost use Rattle.crate_walk.specs.Frames.{Advances, AreRead, IsContentEntry, IsEntryAt, IsAllowed};
 ghost use Rattle.crate_walk.specs.Frames.{IsNext, IsTurn, GoesOn, IsCounted, Starts, Turns};
-ghost use Rattle.crate_walk.specs.Modules.{AreModules};
+ghost use Rattle.crate_walk.specs.Modules.{AreModules, steps_of};
 ghost use Rattle.crate_walk.specs.Frames.{at_next, behind_inline, behind_next, file_frame};
 ghost use Rattle.crate_walk.specs.Frames.{inline_frame};
 ghost use Rattle.crate_walk.specs.Seeking.{found, seen};
@@ -319,7 +321,8 @@ fn start<F: Files>(
 /// The modules of the crate whose root has this path, in order, and the files that were read. At
 /// most so many files are entered besides the root. `None` if there is no file of this path.
 ///
-/// Each file has one number, by its name. What cannot be followed is a step that says why.
+/// Each file has one number, by its name. What cannot be followed is a step that says why. Each
+/// module that begins ends, and the root ends last.
 ///
 /// # Errors
 ///
@@ -331,7 +334,9 @@ pub fn walk_crate<F: Files>(
     root: &str,
     most: usize,
 ) -> Result<Option<Modules>, AllocError>
-    ensures { IfOk result (AreModules (F.finds files.now) (F.reads files.now) root.now most) }
+    ensures modules { IfOk result (AreModules (F.finds files.now) (F.reads files.now) root.now
+        most) }
+    ensures closed { IfOk result (λ o. IfSome o (λ m. closes 1 (steps_of m) ≡ true)) }
 {
     let Some(name) = files.find(alloc, root)? else {
         return Ok(None);

@@ -50,6 +50,29 @@ fn inline_modules(rt: HostRuntime) -> Result<(), Fail> {
     Ok(())
 }
 
+// rustc 1.95 reads each so.
+#[test]
+fn attributes_under_conditions(rt: HostRuntime) -> Result<(), Fail> {
+    let told = items(
+        rt.alloc(),
+        "#[cfg_attr(unix, path = \"u.rs\")] #[cfg_attr(not(unix), path = \"o.rs\")] mod a;
+         #[cfg_attr(windows, path = \"w.rs\", macro_use)] mod b;
+         #[cfg_attr(unix, allow(x), cfg_attr(feature = \"std\", path = \"s.rs\"), macro_use)] mod c;",
+    )?;
+    assert_eq!(rt; told.as_str(), "mod a by u.rs\nmod b\nmod c by s.rs kept\n");
+    Ok(())
+}
+
+#[test]
+fn inner_attributes(rt: HostRuntime) -> Result<(), Fail> {
+    let told = items(
+        rt.alloc(),
+        "#![allow(x)] #![macro_use] mod a { #![cfg_attr(unix, macro_use)] } #![macro_uses] mod b;",
+    )?;
+    assert_eq!(rt; told.as_str(), "macro_use\nmod a of 1\nmacro_use\nmod b\n");
+    Ok(())
+}
+
 #[test]
 fn conditions(rt: HostRuntime) -> Result<(), Fail> {
     let told = items(

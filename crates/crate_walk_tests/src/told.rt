@@ -92,6 +92,7 @@ pub(crate) fn push_event(
         Event::Macro(item) => push_macro(text, item),
         Event::Import(import) => push_import(text, import),
         Event::Crate(item) => push_crate(text, item),
+        Event::MacroUse => text.push_str("macro_use"),
     }
 }
 

@@ -1,7 +1,8 @@
 //! The lines in which a run reports its faults.
 ghost use Rattle.std.specs.Prelude.{◌≡◌, ◌++◌, ℕ, ◌≤◌, ◌<◌, ◌^◌, length, string_bytes, IfOk, OnOk};
 ghost use Rattle.expander_run.specs.Lines.{column_at, fault_lines, fault_words, line, line_at};
-ghost use Rattle.expander_run.specs.Lines.{line_of, read_fault_words, refusal_words, report, stop_line};
+ghost use Rattle.expander_run.specs.Lines.{line_of, read_fault_words, refusal_words, report};
+ghost use Rattle.expander_run.specs.Lines.{stop_line};
 ghost use Rattle.expander_run.specs.Lines.{stop_words};
 ghost use Rattle.expander_run.specs.Spots.{IsSpot};
 

@@ -2,7 +2,7 @@
 use crate::opened::{found, opened};
 use crate::scripts::roomy;
 use expander::{Dialect, Edition, Expansion, FaultKind, Options, Prelude, SmallGrammar, Watched};
-use replay_script::answer_script;
+use replay_script::{Form, answer_script};
 use std::alloc::Global;
 use std::test::Fail;
 
@@ -107,6 +107,7 @@ fn told(alloc: Global, depth: u8, text: &str) -> Result<String, Fail> {
         &mut writer,
         options,
         Prelude::new(alloc),
+        Form::Text,
     );
     Ok(String::from_utf8(writer.into_inner().got)?)
 }

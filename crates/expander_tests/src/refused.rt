@@ -8,7 +8,7 @@ use expander::{
     Answer, Command, Dialect, Edition, Expansion, Options, Prelude, Refusal, Reply, Session,
     SmallGrammar, Status, TextRange, Watched, replay, run, run_with,
 };
-use replay_script::{Answered, End, answer_script};
+use replay_script::{Answered, End, Form, answer_script};
 use std::alloc::{AllocError, Global};
 use std::test::Fail;
 
@@ -296,7 +296,15 @@ fn is_answered_script(alloc: Global, row: &RefusedScript) -> Option<bool> {
     let mut reader = row.script.as_bytes();
     let mut writer = Watched::new(wide(alloc));
     let none = Prelude::new(alloc);
-    let Answered { lines, end } = answer_script(alloc, &mut reader, &mut writer, OPTIONS, none);
+    let form = Form::Text;
+    let Answered { lines, end } = answer_script(
+        alloc,
+        &mut reader,
+        &mut writer,
+        OPTIONS,
+        none,
+        form,
+    );
     let got = writer.into_inner().got;
     let got = std::str::from_utf8(got.as_slice()).ok()?;
     let is_front = row.answers[0].as_bytes().starts_with(got.as_bytes());

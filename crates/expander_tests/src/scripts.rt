@@ -1,7 +1,7 @@
 //! Scripts, line by line: what is written, how many lines are read, and how a script ends.
 use crate::fakes::{Narrow, whole, wide};
 use expander::{Dialect, Edition, Options, Prelude, ScopeRules, SmallGrammar, Watched};
-use replay_script::{Answered, End, answer_script};
+use replay_script::{Answered, End, Form, answer_script};
 use std::alloc::Global;
 use std::io::BufReader;
 use std::test::Fail;
@@ -63,6 +63,34 @@ const ROWS: [(&str, &str, usize, &str); 28] = [
     ("prelude1\n", "", 1, "Wrong(Command)"),
 ];
 
+// A script, and what is written as JSON.
+const JSON_ROWS: [(&str, &str); 4] = [
+    (
+        "origins\nedit 0 0 \\n\\\\\nexpand\nedit 9 9 b\nedit 0 2 \\n(\nexpand\n",
+        "{\"answer\":\"edited\",\"v\":1}\n\
+        {\"answer\":\"unread\",\"at\":{\"bytes\":[1,2],\"end\":[1,1],\"start\":[1,0]},\
+        \"kind\":\"BadToken\",\"message\":\"bad token\",\"v\":1}\n\
+        {\"answer\":\"bad_edit\",\"v\":1}\n{\"answer\":\"edited\",\"v\":1}\n\
+        {\"answer\":\"unread\",\"at\":{\"bytes\":[1,2],\"end\":[1,1],\"start\":[1,0]},\
+        \"kind\":\"GroupLeftOpen\",\"message\":\"group left open\",\"v\":1}\n",
+    ),
+    (
+        "edit 0 0 macro_rules! m { () => { \"a\" } } m!{}\nexpand\n",
+        "{\"answer\":\"edited\",\"v\":1}\n{\"answer\":\"expansion\",\"expanded\":1,\"faults\":[],\
+        \"origins\":[0,25,28],\"ranges\":[0,3],\"text\":\"\\\"a\\\"\\n\",\"v\":1}\n",
+    ),
+    (
+        "source 1 - macro_rules! m { () => { 1 } }\nprelude 1\nprelude 2\n",
+        "{\"answer\":\"source\",\"definitions\":1,\"source\":1,\"v\":1}\n\
+        {\"answer\":\"prelude\",\"definitions\":1,\"v\":1}\n{\"answer\":\"bad_prelude\",\"v\":1}\n",
+    ),
+    (
+        "source 7 - a\\n(\n",
+        "{\"answer\":\"unread\",\"at\":{\"bytes\":[2,3],\"end\":[1,1],\"start\":[1,0]},\
+        \"kind\":\"GroupLeftOpen\",\"message\":\"group left open\",\"source\":7,\"v\":1}\n",
+    ),
+];
+
 pub(crate) const OPTIONS: Options<SmallGrammar> = Options {
     grammar: SmallGrammar,
     edition: Edition::Edition2024,
@@ -84,7 +112,7 @@ pub(crate) fn roomy(alloc: Global) -> Narrow {
 }
 
 // What is written for a script, the number of lines and the end.
-fn answered(alloc: Global, script: &str) -> Result<(String, Answered), Fail> {
+fn answered(alloc: Global, script: &str, form: Form) -> Result<(String, Answered), Fail> {
     let mut reader = BufReader::new(alloc, whole(script.as_bytes()))?;
     let mut writer = Watched::new(roomy(alloc));
     let answered = answer_script(
@@ -93,6 +121,7 @@ fn answered(alloc: Global, script: &str) -> Result<(String, Answered), Fail> {
         &mut writer,
         OPTIONS,
         Prelude::new(alloc),
+        form,
     );
     Ok((String::from_utf8(writer.into_inner().got)?, answered))
 }
@@ -100,7 +129,7 @@ fn answered(alloc: Global, script: &str) -> Result<(String, Answered), Fail> {
 // Whether that is what is expected.
 fn is_answered(alloc: Global, row: &(&str, &str, usize, &str)) -> Result<bool, Fail> {
     let (script, want, lines, end) = *row;
-    let (told, answered) = answered(alloc, script)?;
+    let (told, answered) = answered(alloc, script, Form::Text)?;
     let is_told = told.as_str() == want && answered.lines == lines;
     Ok(is_told && format!(in alloc; "{:?}", answered.end)?.as_str() == end)
 }
@@ -109,6 +138,15 @@ fn is_answered(alloc: Global, row: &(&str, &str, usize, &str)) -> Result<bool, F
 fn scripts(rt: HostRuntime) -> Result<(), Fail> {
     for row in &ROWS {
         assert!(rt; is_answered(rt.alloc(), row)?, "{}", row.0);
+    }
+    Ok(())
+}
+
+#[test]
+fn scripts_as_json(rt: HostRuntime) -> Result<(), Fail> {
+    for (script, want) in &JSON_ROWS {
+        let (got, _answered) = answered(rt.alloc(), script, Form::Json)?;
+        assert!(rt; got.as_str() == *want, "{script}: {got}");
     }
     Ok(())
 }
@@ -126,6 +164,7 @@ fn a_writer_that_fails(rt: HostRuntime) -> Result<(), Fail> {
         &mut writer,
         OPTIONS,
         Prelude::new(rt.alloc()),
+        Form::Text,
     );
     let writer = writer.into_inner();
     assert!(rt; matches!(answered.end, End::WriteFailed) && reader == b"expand\n".as_slice());

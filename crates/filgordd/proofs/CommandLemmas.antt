@@ -1,6 +1,6 @@
 -- The words of a command line, as clap gives them.
 use Rattle.std.proofs.Common.{◌≡◌, List, [], ◌∷◌, Option, Some, None, Bool, true, false, sym, ap, ◌∙◌, subst, codes}
-use Rattle.std.specs.Prelude.{IfOk, IfSome, Result, Ok, Err, option_map, unwrap_or}
+use Rattle.std.specs.Prelude.{◌||◌, IfOk, IfSome, Result, Ok, Err, option_map, unwrap_or}
 use Rattle.clap.proofs.WalkLemmas.{first_value-rows, one_text-rows, raw_values-rows}
 use Rattle.clap.specs.Matches.{first_value, matched_of, one_text, raw_values}
 use Rattle.clap.specs.Simple.{App, Shape, is_simple, new_shape}
@@ -8,7 +8,7 @@ use Rattle.clap.specs.Walk.{Row, Text, all_of, first_of, one_of, rows_of}
 use Rattle.clap.specs.declared.builder.value_parser.ValueParser.{ValueParser}
 use Rattle.clap.specs.declared.parser.matches.Found.{Found}
 use Rattle.filgordd.specs.Choices.{action_name}
-use Rattle.filgordd.specs.Commands.{AsksBy, AsksFor, HasOptions, IsFile, IsFlag, IsProgram, IsTextSubcommand, NamesDiagnostics, diagnostics_rule, file_rule, in_crate, json_rule, layout_rule, option_rule, program_shape, with_more, with_others}
+use Rattle.filgordd.specs.Commands.{AsksBy, AsksFor, HasOptions, IsFile, IsFlag, IsJsonSubcommand, IsProgram, IsTextSubcommand, NamesDiagnostics, apart_rule, diagnostics_rule, file_rule, in_crate, json_rule, layout_rule, option_rule, program_shape, steps_rule, with_more, with_others}
 use Rattle.filgordd.specs.declared.job.Action.{Action}
 use Rattle.filgordd.specs.declared.job.Diagnostics.{Diagnostics}
 use Rattle.filgordd.specs.declared.job.Job.{Job}
@@ -46,6 +46,12 @@ flag_is f id set absent on off = record {
   off = λ h. off (one_text-rows f id ∙ h);
   on = λ h. on (one_text-rows f id ∙ h);
 }
+
+-- a command without global options has none after one more that is none
+pub none_global : (new old global : Bool) → new ≡ (old || global) → old ≡ false → global ≡ false → new ≡ false
+none_global new false false h e f = h
+none_global new true global h e f = absurd (cc e)
+none_global new false true h e f = absurd (cc f)
 
 -- a name and rows that were got apart stand together
 pub together : {B : Type 0} (o : Option B) (name_of : B → Text) (rows : B → List Row) (n : Text) (r : List Row) → option_map name_of o ≡ Some n
@@ -91,24 +97,36 @@ text_shape_is : (name : Text) (shape : Shape) (h : IsTextSubcommand name shape) 
 text_shape_is name shape h =
     h.shape_is ∙ ap (with_more file_rule) (h.is_base.shape_is ∙ ap with_others h.is_base.is_base.shape_is)
 
+-- and one that answers as JSON too
+abbrev json_shape : (name : Text) (shape : Shape) → IsJsonSubcommand name shape → Shape
+json_shape name shape h = with_more json_rule (text_shape name h.base h.is_base)
+
+json_shape_is : (name : Text) (shape : Shape) (h : IsJsonSubcommand name shape) → shape ≡ json_shape name shape h
+json_shape_is name shape h = h.shape_is ∙ ap (with_more json_rule) (text_shape_is name h.base h.is_base)
+
 -- the program is one of which clap says the matches
 pub is_simple_program : (app : App) → IsProgram app → is_simple app ≡ true
 is_simple_program app p =
-    let of_six : Shape → Shape → Shape → Shape → Shape → Shape → App = λ a b c d e f. record { top = program_shape; subs = a ∷ b ∷ c ∷ d ∷ e ∷ f ∷ [] } in
-    let with_expand : Shape → Shape = λ s. in_crate (with_more json_rule (with_more layout_rule s)) in
+    let of_all : Shape → Shape → Shape → Shape → Shape → Shape → Shape → App = λ a b c d e f g.
+    record { top = program_shape; subs = a ∷ b ∷ c ∷ d ∷ e ∷ f ∷ g ∷ [] } in
+    let with_expand : Shape → Shape = λ s. in_crate (with_more apart_rule (with_more json_rule (with_more layout_rule s))) in
     let with_sent : Shape → Shape = λ s. in_crate (with_more (diagnostics_rule p.is_lsp.diagnostics) s) in
+    let with_steps : Shape → Shape = with_more (steps_rule p.is_trace.steps) in
     let expand : Shape = with_expand (text_shape (codes "expand") p.is_expand.base p.is_expand.is_base) in
-    let explain : Shape = text_shape (codes "explain") p.explain p.is_explain in
+    let explain : Shape = json_shape (codes "explain") p.explain p.is_explain in
     let lsp : Shape = with_sent (with_others (shape_by (codes "lsp") p.is_lsp.is_base.base p.is_lsp.is_base.is_base)) in
     let macros : Shape = in_crate (text_shape (codes "macros") p.is_macros.base p.is_macros.is_base) in
-    let replay : Shape = text_shape (codes "replay") p.replay p.is_replay in
+    let replay : Shape = json_shape (codes "replay") p.replay p.is_replay in
+    let trace : Shape = with_steps (json_shape (codes "trace") p.is_trace.base p.is_trace.is_base) in
     ap is_simple (p.app_is
-    ∙ ap (λ (s : Shape). of_six s p.explain p.lsp p.macros p.replay p.view)
+    ∙ ap (λ (s : Shape). of_all s p.explain p.lsp p.macros p.replay p.trace p.view)
     (p.is_expand.shape_is ∙ ap with_expand (text_shape_is (codes "expand") p.is_expand.base p.is_expand.is_base))
-    ∙ ap (λ (s : Shape). of_six expand s p.lsp p.macros p.replay p.view) (text_shape_is (codes "explain") p.explain p.is_explain)
-    ∙ ap (λ (s : Shape). of_six expand explain s p.macros p.replay p.view)
+    ∙ ap (λ (s : Shape). of_all expand s p.lsp p.macros p.replay p.trace p.view) (json_shape_is (codes "explain") p.explain p.is_explain)
+    ∙ ap (λ (s : Shape). of_all expand explain s p.macros p.replay p.trace p.view)
     (p.is_lsp.shape_is ∙ ap with_sent (p.is_lsp.is_base.shape_is ∙ ap with_others p.is_lsp.is_base.is_base.shape_is))
-    ∙ ap (λ (s : Shape). of_six expand explain lsp s p.replay p.view)
+    ∙ ap (λ (s : Shape). of_all expand explain lsp s p.replay p.trace p.view)
     (p.is_macros.shape_is ∙ ap in_crate (text_shape_is (codes "macros") p.is_macros.base p.is_macros.is_base))
-    ∙ ap (λ (s : Shape). of_six expand explain lsp macros s p.view) (text_shape_is (codes "replay") p.replay p.is_replay)
-    ∙ ap (λ (s : Shape). of_six expand explain lsp macros replay s) (text_shape_is (codes "view") p.view p.is_view))
+    ∙ ap (λ (s : Shape). of_all expand explain lsp macros s p.trace p.view) (json_shape_is (codes "replay") p.replay p.is_replay)
+    ∙ ap (λ (s : Shape). of_all expand explain lsp macros replay s p.view)
+    (p.is_trace.shape_is ∙ ap with_steps (json_shape_is (codes "trace") p.is_trace.base p.is_trace.is_base))
+    ∙ ap (λ (s : Shape). of_all expand explain lsp macros replay trace s) (text_shape_is (codes "view") p.view p.is_view))

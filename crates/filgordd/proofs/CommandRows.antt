@@ -5,9 +5,9 @@ use Rattle.clap.proofs.OnLiterals.{clap_on_literals}
 use Rattle.clap.specs.Simple.{App, Shape, new_shape, subcommand_of}
 use Rattle.clap.specs.Walk.{Text, all_of, first_of, one_of}
 use Rattle.clap.specs.declared.builder.value_parser.ValueParser.{ValueParser}
-use Rattle.filgordd.specs.Commands.{diagnostics_rule, file_rule, in_crate, json_rule, layout_rule, option_rule, program_shape, with_more, with_others}
+use Rattle.filgordd.specs.Commands.{apart_rule, diagnostics_rule, file_rule, in_crate, json_rule, layout_rule, option_rule, program_shape, steps_rule, with_more, with_others}
 
-module _ (grammar edition scope depth calls tokens diagnostics : ValueParser) where
+module _ (grammar edition scope depth calls tokens diagnostics steps : ValueParser) where
   abbrev named : Text → Shape
   named name = record (new_shape name) {
     rules = option_rule (codes "grammar") (codes "rust") grammar
@@ -24,10 +24,11 @@ module _ (grammar edition scope depth calls tokens diagnostics : ValueParser) wh
   abbrev program : App
   program = record {
     top = program_shape;
-    subs = in_crate (with_more json_rule (with_more layout_rule (on_text (codes "expand"))))
-        ∷ on_text (codes "explain")
+    subs = in_crate (with_more apart_rule (with_more json_rule (with_more layout_rule (on_text (codes "expand")))))
+        ∷ with_more json_rule (on_text (codes "explain"))
         ∷ in_crate (with_more (diagnostics_rule diagnostics) (with_others (named (codes "lsp"))))
-        ∷ in_crate (on_text (codes "macros")) ∷ on_text (codes "replay")
+        ∷ in_crate (on_text (codes "macros")) ∷ with_more json_rule (on_text (codes "replay"))
+        ∷ with_more (steps_rule steps) (with_more json_rule (on_text (codes "trace")))
         ∷ on_text (codes "view") ∷ [];
   }
 
@@ -90,6 +91,47 @@ module _ (grammar edition scope depth calls tokens diagnostics : ValueParser) wh
   as_printed : layout (codes "filgordd" ∷ codes "expand" ∷ codes "t" ∷ []) ≡ Some (Some (codes "false"), Some (codes "t"))
   unfolding clap_on_literals
   as_printed = refl
+
+  -- the subcommand, and whether JSON is asked for
+  abbrev as_json : List Text → Option (Text × Option Text)
+  as_json words = option_map {U = Text × Option Text} (λ p. (p.0, one_of (codes "json") p.1)) (subcommand_of program words)
+
+  -- `filgordd explain --json t`
+  explained : as_json (codes "filgordd" ∷ codes "explain" ∷ codes "--json" ∷ codes "t" ∷ []) ≡ Some (codes "explain", Some (codes "true"))
+  unfolding clap_on_literals
+  explained = refl
+
+  -- `filgordd replay --json`
+  replayed : as_json (codes "filgordd" ∷ codes "replay" ∷ codes "--json" ∷ []) ≡ Some (codes "replay", Some (codes "true"))
+  unfolding clap_on_literals
+  replayed = refl
+
+  -- whether each file is printed by itself, and the root
+  abbrev by_files : List Text → Option (Option Text × Option Text)
+  by_files words = option_map {U = Option Text × Option Text}
+      (λ p. (one_of (codes "files") p.1, first_of (codes "crate") p.1)) (subcommand_of program words)
+
+  -- `filgordd expand --crate r --files`
+  apart : by_files (codes "filgordd" ∷ codes "expand" ∷ codes "--crate" ∷ codes "r" ∷ codes "--files" ∷ [])
+      ≡ Some (Some (codes "true"), Some (codes "r"))
+  unfolding clap_on_literals
+  apart = refl
+
+  -- how many steps are traced, and the file
+  abbrev traced : List Text → Option (Text × (Option Text × Option Text))
+  traced words = option_map {U = Text × (Option Text × Option Text)}
+      (λ p. (p.0, (first_of (codes "to") p.1, first_of (codes "file") p.1))) (subcommand_of program words)
+
+  -- `filgordd trace --to 5 t:3`
+  few_steps : traced (codes "filgordd" ∷ codes "trace" ∷ codes "--to" ∷ codes "5" ∷ codes "t:3" ∷ [])
+      ≡ Some (codes "trace", (Some (codes "5"), Some (codes "t:3")))
+  unfolding clap_on_literals
+  few_steps = refl
+
+  -- `filgordd trace`
+  all_steps : traced (codes "filgordd" ∷ codes "trace" ∷ []) ≡ Some (codes "trace", (Some (codes "10000"), None))
+  unfolding clap_on_literals
+  all_steps = refl
 
   -- the root of a crate, and the files
   abbrev crate_words : List Text → Option (Option Text × (Option Text × Option (List Text)))

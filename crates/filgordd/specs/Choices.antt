@@ -9,9 +9,9 @@ use Rattle.expander_model.specs.declared.limits.Limits.{Limits}
 use Rattle.expander_model.specs.declared.scope_rules.ScopeRules.{ScopeRules}
 use Rattle.expander_model.specs.declared.scope_rules.ScopeRules.TheVariants as rules
 use Rattle.expander_run.specs.declared.options.Options.{Options}
-use Rattle.replay_script.specs.Editions.{edition_name}
+use Rattle.crate_picks.specs.Editions.{edition_name}
 use Rattle.filgordd.specs.declared.job.Action.{Action}
-use Rattle.filgordd.specs.declared.job.Action.TheVariants.{Expand, Explain, Macros, Replay, Serve, View}
+use Rattle.filgordd.specs.declared.job.Action.TheVariants.{Expand, Explain, Macros, Replay, Serve, Trace, View}
 
 -- the name of a subcommand
 abbrev pub action_name : Action → List ℕ
@@ -20,6 +20,7 @@ action_name Explain = codes "explain"
 action_name Macros = codes "macros"
 action_name Replay = codes "replay"
 action_name Serve = codes "lsp"
+action_name Trace = codes "trace"
 action_name View = codes "view"
 
 -- a word names a grammar; that of Rust is of this edition

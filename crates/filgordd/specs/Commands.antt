@@ -53,6 +53,13 @@ layout_rule = record (new_rule (codes "layout")) {
 abbrev pub json_rule : Rule
 json_rule = record (new_rule (codes "json")) { long = Some (codes "json"); action = Some SetTrue }
 
+-- each file of a crate by itself: an option with no value of its own
+abbrev pub apart_rule : Rule
+apart_rule = record (new_rule (codes "files")) {
+  long = Some (codes "files");
+  action = Some SetTrue;
+}
+
 -- the root of a crate: an option with no value where it is not used
 abbrev pub crate_rule : Rule
 crate_rule = record (new_rule (codes "crate")) { long = Some (codes "crate"); value_names = 1 }
@@ -116,15 +123,34 @@ pub record IsTextSubcommand (name : Text) (shape : Shape) : Type 0 where
   pub is_base : TakesOthers name base
   pub shape_is : shape ≡ with_more file_rule base
 
+-- a subcommand on a text that answers as text or as JSON
+pub record IsJsonSubcommand (name : Text) (shape : Shape) : Type 0 where
+  pub base : Shape
+  pub is_base : IsTextSubcommand name base
+  pub shape_is : shape ≡ with_more json_rule base
+
+-- how many steps are traced at most: 10,000 where the option is not used
+abbrev pub steps_rule : ValueParser → Rule
+steps_rule parser = option_rule (codes "to") (codes "10000") parser
+
+-- `trace`, which shows the steps of calls, or prints JSON
+pub record IsTraceSubcommand (shape : Shape) : Type 0 where
+  pub base : Shape
+  pub is_base : IsJsonSubcommand (codes "trace") base
+  pub steps : ValueParser
+  pub shape_is : shape ≡ with_more (steps_rule steps) base
+
 -- a subcommand that takes files of a crate, and other crates
 abbrev pub in_crate : Shape → Shape
 in_crate s = with_more crate_rule (with_more extern_rule s)
 
--- `expand`, which may lay out what it prints, or print JSON, and takes files of a crate
+-- `expand`, which may lay out what it prints, or print JSON, and takes files of a crate, which it may
+-- print one by one
 pub record IsExpandSubcommand (shape : Shape) : Type 0 where
   pub base : Shape
   pub is_base : IsTextSubcommand (codes "expand") base
-  pub shape_is : shape ≡ in_crate (with_more json_rule (with_more layout_rule base))
+  pub shape_is : shape
+      ≡ in_crate (with_more apart_rule (with_more json_rule (with_more layout_rule base)))
 
 -- `macros`, which takes files of a crate
 pub record IsMacrosSubcommand (shape : Shape) : Type 0 where
@@ -143,7 +169,7 @@ pub record IsServerSubcommand (shape : Shape) : Type 0 where
   pub diagnostics : ValueParser
   pub shape_is : shape ≡ in_crate (with_more (diagnostics_rule diagnostics) base)
 
--- the program: one of its six subcommands has to be named
+-- the program: one of its seven subcommands has to be named
 abbrev pub program_shape : Shape
 program_shape = record (new_shape (codes "filgordd")) {
   is_leaf = false;
@@ -162,16 +188,18 @@ pub record IsProgram (app : App) : Type 0 where
   pub lsp : Shape
   pub macros : Shape
   pub replay : Shape
+  pub trace : Shape
   pub view : Shape
   pub is_expand : IsExpandSubcommand expand
-  pub is_explain : IsTextSubcommand (codes "explain") explain
+  pub is_explain : IsJsonSubcommand (codes "explain") explain
   pub is_lsp : IsServerSubcommand lsp
   pub is_macros : IsMacrosSubcommand macros
-  pub is_replay : IsTextSubcommand (codes "replay") replay
+  pub is_replay : IsJsonSubcommand (codes "replay") replay
+  pub is_trace : IsTraceSubcommand trace
   pub is_view : IsTextSubcommand (codes "view") view
   pub app_is : app ≡ record {
     top = program_shape;
-    subs = expand ∷ explain ∷ lsp ∷ macros ∷ replay ∷ view ∷ [];
+    subs = expand ∷ explain ∷ lsp ∷ macros ∷ replay ∷ trace ∷ view ∷ [];
   }
 
 -- a file's name is the word for it, but `-` names none
@@ -207,13 +235,15 @@ pub record ChosenBy (rows : List Row) (options : Options AnyGrammar) : Type 0 wh
   pub has_tokens : first_of (codes "most-tokens") rows ≡ Some tokens
   pub chosen : Chosen grammar edition scope depth calls tokens options
 
--- what they ask for: a job with these options, laid out or not, as JSON or not, with these
--- diagnostics, and, each as its word names it, a folder of libraries, other files in order, options
--- of `cfg`, a text, all texts in order, other crates in order, and the root of a crate
+-- what they ask for: a job with these options, laid out or not, as JSON or not, each file by itself
+-- or not, with these diagnostics, and, each as its word names it, a folder of libraries, other files
+-- in order, options of `cfg`, a text, all texts in order, other crates in order, the root of a
+-- crate, and how many steps are traced
 pub record AsksBy (rows : List Row) (job : Job) : Type 0 where
   pub options : ChosenBy rows job.options
   pub has_layout : IsFlag (one_of (codes "layout") rows) job.layout
   pub has_json : IsFlag (one_of (codes "json") rows) job.json
+  pub has_apart : IsFlag (one_of (codes "files") rows) job.apart
   pub has_diagnostics : NamesDiagnostics (first_of (codes "diagnostics") rows) job.diagnostics
   pub has_library : first_of (codes "std") rows ≡ option_map (λ s. s.now) job.library
   pub has_with : unwrap_or (all_of (codes "with") rows) [] ≡ map (λ s. s.now) job.with.items
@@ -223,6 +253,7 @@ pub record AsksBy (rows : List Row) (job : Job) : Type 0 where
   pub has_externs : unwrap_or (all_of (codes "extern") rows) []
       ≡ map (λ s. s.now) job.externs.items
   pub has_root : first_of (codes "crate") rows ≡ option_map (λ s. s.now) job.root
+  pub has_steps : first_of (codes "to") rows ≡ option_map (λ s. s.now) job.steps
 
 -- the subcommand that was named, and its values, ask for this job
 abbrev pub AsksFor : Option (Text × List Row) → Job → Type 0

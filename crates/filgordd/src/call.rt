@@ -15,8 +15,8 @@ use std::io;
 use std::process::ExitCode;
 use tt_data::TtFault;
 
-// Reports what is wrong at a byte of a text. The status is 1.
-fn told(rt: &HostRuntime, text: &str, at: u32, what: &str) -> io::Result<ExitCode>
+/// Reports what is wrong at a byte of a text. The status is 1.
+pub(crate) fn told(rt: &HostRuntime, text: &str, at: u32, what: &str) -> io::Result<ExitCode>
     requires { length text.now < 2 ^ 32 }
 {
     let mut line = String::new(rt.alloc());
@@ -55,6 +55,16 @@ fn show(rt: &HostRuntime, text: &str, called: &Called, layout: bool) -> io::Resu
     Ok(status)
 }
 
+/// By what the calls of a text are expanded.
+pub(crate) fn call_options(options: &Options<AnyGrammar>) -> CallOptions<'_, AnyGrammar> {
+    CallOptions {
+        grammar: &options.grammar,
+        edition: options.edition,
+        dialect: &options.dialect,
+        depth: options.depth,
+    }
+}
+
 // Answers for the call at a byte of a text.
 fn answer(
     rt: &HostRuntime,
@@ -66,12 +76,7 @@ fn answer(
 ) -> io::Result<ExitCode>
     requires { length text.now < 2 ^ 32 }
 {
-    let by = CallOptions {
-        grammar: &options.grammar,
-        edition: options.edition,
-        dialect: &options.dialect,
-        depth: options.depth,
-    };
+    let by = call_options(options);
     match call_in_text(rt.alloc(), text, &by, prelude, at) {
         Ok(Found::Call(called)) => show(rt, text, &called, layout),
         Ok(Found::Nothing) => told(rt, text, at, "no call is here"),

@@ -5,10 +5,12 @@ ghost use Rattle.clap.specs.declared.builder.command.Command.TheViews.{out-Comma
 ghost use Rattle.clap.specs.declared.builder.value_parser.ValueParser.{ValueParser};
 ghost use Rattle.filgordd.specs.Commands.{ChoosesLanguage, IsExpandSubcommand, IsMacrosSubcommand};
 ghost use Rattle.filgordd.specs.Commands.{HasOptions, IsProgram, IsServerSubcommand};
-ghost use Rattle.filgordd.specs.Commands.{IsTextSubcommand, TakesOthers};
-ghost use Rattle.filgordd.specs.Commands.{bare_program, cfg_rule, crate_rule, extern_rule};
+ghost use Rattle.filgordd.specs.Commands.{IsJsonSubcommand, IsTextSubcommand, IsTraceSubcommand};
+ghost use Rattle.filgordd.specs.Commands.{TakesOthers};
+ghost use Rattle.filgordd.specs.Commands.{apart_rule, bare_program, cfg_rule, crate_rule};
+ghost use Rattle.filgordd.specs.Commands.{extern_rule};
 ghost use Rattle.filgordd.specs.Commands.{file_rule, json_rule, layout_rule, library_rule};
-ghost use Rattle.filgordd.specs.Commands.{option_rule, with_rule};
+ghost use Rattle.filgordd.specs.Commands.{option_rule, steps_rule, with_rule};
 
 use clap::{Arg, ArgAction, Command, value_parser};
 use std::alloc::{AllocError, Global};
@@ -171,9 +173,34 @@ fn json<'a>(alloc: Global) -> Arg<'a>
         .long("json")
         .action(ArgAction::SetTrue)
         .help(
-            "Prints a line of JSON: the expansion with the origins of its tokens, or why there is \
-            none",
+            "Prints lines of JSON in place of text: one for the expansion, for what explains the \
+            faults, for each step, or for each answer to a script",
         )
+}
+
+fn apart<'a>(alloc: Global) -> Arg<'a>
+    ensures rule { rule_of result ≡ apart_rule }
+    ensures own { result.global ≡ false }
+{
+    Arg::new(alloc, "files")
+        .long("files")
+        .action(ArgAction::SetTrue)
+        .help(
+            "With --crate and without a FILE: prints each file of the crate by itself, behind a line \
+            // FILE",
+        )
+}
+
+fn steps<'a>(alloc: Global) -> Arg<'a>
+    ensures rule { (p : ValueParser) × (rule_of result ≡ steps_rule p) }
+    ensures own { result.global ≡ false }
+{
+    Arg::new(alloc, "to")
+        .long("to")
+        .value_name("N")
+        .value_parser(value_parser!(u64))
+        .default_value("10000")
+        .help("How many steps are traced at most")
 }
 
 fn root<'a>(alloc: Global) -> Arg<'a>
@@ -184,7 +211,7 @@ fn root<'a>(alloc: Global) -> Arg<'a>
         .long("crate")
         .value_name("ROOT")
         .help(
-            "The root file of a crate, which is walked through. Without a FILE all its files are \
+            "The root file of a crate, which is walked through. Without a FILE the whole crate is \
             taken",
         )
 }
@@ -271,6 +298,18 @@ fn text_subcommand<'a>(
     others_command(alloc, name, about)?.arg(file(alloc))
 }
 
+// A subcommand on a text that answers as text or as JSON.
+fn json_subcommand<'a>(
+    alloc: Global,
+    name: &'a str,
+    about: &'a str,
+) -> Result<Command<'a>, AllocError>
+    ensures shape { IfOk result (λ c. IsJsonSubcommand name.now (shape_of c)) }
+    ensures own { IfOk result (λ c. (fields_of c).has_globals ≡ false) }
+{
+    text_subcommand(alloc, name, about)?.arg(json(alloc))
+}
+
 // The subcommand that prints an expansion.
 fn expand_subcommand<'a>(alloc: Global) -> Result<Command<'a>, AllocError>
     ensures shape { IfOk result (λ c. IsExpandSubcommand (shape_of c)) }
@@ -280,6 +319,7 @@ fn expand_subcommand<'a>(alloc: Global) -> Result<Command<'a>, AllocError>
     text_subcommand(alloc, "expand", about)?
         .arg(layout(alloc))?
         .arg(json(alloc))?
+        .arg(apart(alloc))?
         .arg(other_crate(alloc))?
         .arg(root(alloc))
 }
@@ -293,6 +333,15 @@ fn macros_subcommand<'a>(alloc: Global) -> Result<Command<'a>, AllocError>
     text_subcommand(alloc, "macros", about)?
         .arg(other_crate(alloc))?
         .arg(root(alloc))
+}
+
+// The subcommand that shows the steps of calls.
+fn trace_subcommand<'a>(alloc: Global) -> Result<Command<'a>, AllocError>
+    ensures shape { IfOk result (λ c. IsTraceSubcommand (shape_of c)) }
+    ensures own { IfOk result (λ c. (fields_of c).has_globals ≡ false) }
+{
+    let about = "Shows the steps of calls: of FILE, FILE:LINE, or FILE:LINE:COLUMN for one call";
+    json_subcommand(alloc, "trace", about)?.arg(steps(alloc))
 }
 
 // The subcommand that serves an editor.
@@ -331,9 +380,10 @@ pub(crate) fn program<'a>(alloc: Global) -> Result<Command<'a>, AllocError>
     let view = "Prints an HTML page of a text, its expansion and its faults";
     bare_program(alloc)?
         .subcommand(expand_subcommand(alloc)?)?
-        .subcommand(text_subcommand(alloc, "explain", explain)?)?
+        .subcommand(json_subcommand(alloc, "explain", explain)?)?
         .subcommand(server_subcommand(alloc)?)?
         .subcommand(macros_subcommand(alloc)?)?
-        .subcommand(text_subcommand(alloc, "replay", replay)?)?
+        .subcommand(json_subcommand(alloc, "replay", replay)?)?
+        .subcommand(trace_subcommand(alloc)?)?
         .subcommand(text_subcommand(alloc, "view", view)?)
 }

@@ -1,17 +1,20 @@
-//! Does a job on files of a crate.
+//! Does a job on a crate, or on files of it.
+ghost use Rattle.std.specs.Prelude.{◌<◌, ◌^◌, length};
 
 use crate::conditions::{cfg_of, under};
 use crate::job::{Action, Job};
 use crate::layout::{Run, laid_out, run_in_memory};
+use crate::view::reply_of;
 use crate::warnings::warn;
 use any_grammar::AnyGrammar;
 use cfg_options::CfgOptions;
-use crate_walk::Content;
-use expander::{Options, Prelude, Watched};
+use crate_walk::{Content, Event, FileText};
+use expander::{Expansion, Options, Prelude, Reply, Watched};
+use expander_run::lines::{read_fault_words, refusal_words};
 use expander_run::program::put;
 use program_files::{
-    Chosen, Disk, Ended, Whole, chosen_files, code_in, fault_words, listed, misused, opened,
-    prelude_of_file, push_shown, refusal, refused, tell_lacks, whole_from,
+    Chosen, Disk, Ended, Whole, chosen_files, code_in, fault_lines, fault_words, file_text, listed,
+    misused, opened, prelude_of_file, push_shown, refusal, refused, tell_lacks, whole_from,
 };
 use std::alloc::{AllocError, Global};
 use std::process::ExitCode;
@@ -51,10 +54,10 @@ fn tell_faults(rt: &HostRuntime, shown: &str, told: &[u8]) -> io::Result<()> {
     Ok(())
 }
 
-// The line with the name of a file where there are several, and else nothing.
+// The line with the name of a file where there are several, each by itself, and else nothing.
 fn head_of(alloc: Global, job: &Job<'_>, shown: &str) -> Result<String, AllocError> {
     let mut line = String::new(alloc);
-    if job.files.len() != 1 {
+    if job.files.len() != 1 && !is_whole(job) {
         line.push_str("// ")?;
         push_shown(&mut line, shown)?;
         line.push('\n')?;
@@ -68,6 +71,15 @@ fn written(rt: &HostRuntime, bytes: &[u8]) -> bool {
     put(&mut writer, bytes)
 }
 
+// Prints a text that was printed, laid out where that is asked for. Answers whether it was written.
+fn print_text(rt: &HostRuntime, job: &Job<'_>, printed: &[u8]) -> io::Result<bool> {
+    if job.layout {
+        let laid = laid_out(rt.alloc(), printed)?;
+        return Ok(written(rt, laid.as_bytes()));
+    }
+    Ok(written(rt, printed))
+}
+
 // Prints what a run printed, behind a line with the name of its file where there are several.
 // Answers whether it was written.
 fn print_run(rt: &HostRuntime, job: &Job<'_>, shown: &str, run: &Run) -> io::Result<bool> {
@@ -75,11 +87,7 @@ fn print_run(rt: &HostRuntime, job: &Job<'_>, shown: &str, run: &Run) -> io::Res
     if !written(rt, head.as_bytes()) {
         return Ok(false);
     }
-    if job.layout {
-        let laid = laid_out(rt.alloc(), run.printed.as_slice())?;
-        return Ok(written(rt, laid.as_bytes()));
-    }
-    Ok(written(rt, run.printed.as_slice()))
+    print_text(rt, job, run.printed.as_slice())
 }
 
 // Expands a text of a crate after these definitions, and answers whether it has no fault.
@@ -136,6 +144,100 @@ fn expand_file(
     }
 }
 
+// What a file gives for the text of the whole crate: its own text, unless it cannot be expanded,
+// and whether it has no fault.
+type Given = (Option<FileText>, bool);
+
+// What a file gives for which there is no expansion, for this reason.
+fn given_none(rt: &HostRuntime, shown: &str, why: &str) -> Result<Given, Ended> {
+    refused(rt, shown, why)?;
+    Ok((None, false))
+}
+
+// What a file gives that has this expansion, whose faults are reported.
+fn given_by(
+    rt: &HostRuntime,
+    shown: &str,
+    text: &str,
+    events: &[Event],
+    expansion: &Expansion,
+) -> Result<Given, Ended>
+    requires { length text.now < 2 ^ 32 }
+{
+    let told = fault_lines(rt.alloc(), shown, text, expansion.faults())?;
+    eprint!(rt; "{told}")?;
+    if expansion.printed().len() > u32::MAX as usize {
+        return given_none(rt, shown, "the printed text is too long");
+    }
+    let own = file_text(rt.alloc(), expansion, events)?;
+    Ok((Some(own), expansion.faults().is_empty()))
+}
+
+// What a file with this text gives, after these definitions.
+fn given_text(
+    rt: &HostRuntime,
+    job: &Job<'_>,
+    shown: &str,
+    prelude: Prelude,
+    text: &str,
+    events: &[Event],
+) -> Result<Given, Ended> {
+    if text.len() > u32::MAX as usize {
+        return given_none(rt, shown, "input is too long");
+    }
+    let options = options_of(rt, job)?;
+    warn(rt, &options, shown, text.as_bytes());
+    match reply_of(rt.alloc(), options, prelude, text) {
+        Ok(Reply::Read(expansion)) => given_by(rt, shown, text, events, &expansion),
+        Ok(Reply::Unread(fault)) => given_none(rt, shown, read_fault_words(fault.kind)),
+        Err(refusal) => given_none(rt, shown, refusal_words(refusal)),
+    }
+}
+
+// What a file of a crate gives.
+fn given_file(
+    rt: &HostRuntime,
+    job: &Job<'_>,
+    whole: &Whole,
+    file: usize,
+    shown: &str,
+) -> Result<Given, Ended> {
+    match whole.walked.modules.content(file) {
+        Some(Content::Text(text, events)) => match prelude_of_file(rt.alloc(), whole, file) {
+            Ok(prelude) => given_text(rt, job, shown, prelude, text.as_str(), events.as_slice()),
+            Err(fault) => given_none(rt, shown, fault_words(fault)),
+        },
+        _ => {
+            let name = whole.walked.modules.file_name(file).unwrap_or(shown);
+            expand_unread(rt, job, shown, name)?;
+            Ok((None, false))
+        }
+    }
+}
+
+// Expands a whole crate as one text, and answers whether no file has a fault. `files` are all its
+// files, in the order of their numbers.
+fn expand_whole(
+    rt: &HostRuntime,
+    job: &Job<'_>,
+    whole: &Whole,
+    files: &[Chosen],
+) -> Result<bool, Ended> {
+    let mut texts = Vec::new(rt.alloc());
+    let mut faultless = true;
+    for (file, chosen) in files.iter().enumerate() {
+        let (own, is_faultless) = given_file(rt, job, whole, file, chosen.shown.as_str())?;
+        texts.push(own)?;
+        faultless &= is_faultless;
+    }
+    let text = whole.walked.whole_text(rt.alloc(), texts.as_slice())?;
+    if print_text(rt, job, text.as_slice())? {
+        Ok(faultless)
+    } else {
+        refusal(rt, "standard output", "write failed")
+    }
+}
+
 // Reports a file that is none of the crate, or cannot be opened.
 fn tell_stranger(rt: &HostRuntime, shown: &str) -> io::Result<ExitCode> {
     match opened(rt, shown) {
@@ -180,6 +282,25 @@ fn answer_file(
     }
 }
 
+// Does a job on files one by one, and answers whether no file has a fault.
+fn answer_files(
+    rt: &HostRuntime,
+    job: &Job<'_>,
+    whole: &Whole,
+    files: &[Chosen],
+) -> Result<bool, Ended> {
+    let mut faultless = true;
+    for chosen in files {
+        faultless &= answer_file(rt, job, whole, chosen)?;
+    }
+    Ok(faultless)
+}
+
+// Whether a crate is expanded as one text.
+fn is_whole(job: &Job<'_>) -> bool {
+    job.action == Action::Expand && job.files.is_empty() && !job.apart
+}
+
 /// The crate with this root, with what a job's words give of others. What cannot be followed is
 /// reported.
 pub(crate) fn walked(
@@ -194,7 +315,8 @@ pub(crate) fn walked(
     Ok(whole)
 }
 
-/// Does a job on the files of the crate with this root. The status is 0 if no file has a fault.
+/// Does a job on the crate with this root, or on files of it. The status is 0 if no file that it is
+/// on has a fault.
 pub(crate) fn perform_crate(
     rt: &HostRuntime,
     job: &Job<'_>,
@@ -207,10 +329,11 @@ pub(crate) fn perform_crate(
     let folder = folder_of(rt)?;
     let words = job.files.as_slice();
     let files = chosen_files(rt.alloc(), &disk, modules, words, folder.as_str())?;
-    let mut faultless = true;
-    for chosen in &files {
-        faultless &= answer_file(rt, job, &whole, chosen)?;
-    }
+    let faultless = if is_whole(job) {
+        expand_whole(rt, job, &whole, files.as_slice())?
+    } else {
+        answer_files(rt, job, &whole, files.as_slice())?
+    };
     Ok(if faultless {
         ExitCode::SUCCESS
     } else {

@@ -5,9 +5,9 @@ ghost use Rattle.expander_model.specs.declared.scope_rules.ScopeRules.{ScopeRule
 ghost use Rattle.filgordd.specs.Choices.{Chosen, IsGrammar, IsLimited, action_name, scope_name};
 
 use any_grammar::AnyGrammar;
+use crate_picks::edition_of;
 use expander::{Dialect, Edition, Limits, Options, ScopeRules};
 use program_files::OtherWords;
-use replay_script::edition_of;
 
 /// What is done with a text.
 #[derive(Clone, Copy, PartialEq, Eq)]
@@ -22,6 +22,8 @@ pub(crate) enum Action {
     Replay,
     /// An editor is served.
     Serve,
+    /// The steps of its calls are shown.
+    Trace,
     /// It is shown with its expansion, as an HTML page.
     View,
 }
@@ -37,6 +39,7 @@ pub(crate) fn action_of(name: &str) -> Option<Action>
         "macros" => Some(Action::Macros),
         "lsp" => Some(Action::Serve),
         "replay" => Some(Action::Replay),
+        "trace" => Some(Action::Trace),
         "view" => Some(Action::View),
         _ => None,
     }
@@ -63,6 +66,8 @@ pub(crate) struct Job<'a> {
     pub(crate) layout: bool,
     /// Whether the reply is told as JSON.
     pub(crate) json: bool,
+    /// Whether each file of a crate is answered by itself.
+    pub(crate) apart: bool,
     /// Which faults an editor is sent.
     pub(crate) diagnostics: Diagnostics,
     /// The folder of the libraries whose definitions come first.
@@ -72,7 +77,7 @@ pub(crate) struct Job<'a> {
     /// The words for options of `cfg`, in order.
     pub(crate) cfg: Vec<&'a str>,
     /// The path of the text's file; without one it is standard input. The line and column of a call
-    /// to expand, or of a fault to explain, may follow.
+    /// to expand or to trace, or of a fault to explain, may follow.
     pub(crate) file: Option<&'a str>,
     /// The paths of all files that were named, in order.
     pub(crate) files: Vec<&'a str>,
@@ -80,6 +85,8 @@ pub(crate) struct Job<'a> {
     pub(crate) externs: Vec<&'a str>,
     /// The root of the crate that they are files of.
     pub(crate) root: Option<&'a str>,
+    /// The word for how many steps are traced at most.
+    pub(crate) steps: Option<&'a str>,
 }
 
 impl Job<'_> {

@@ -1,5 +1,6 @@
 //! The program `filgordd`: it expands the macros of a text or of a call, explains the faults of a
-//! text, shows the expansion as a page, or answers a script of edits and expansions, or an editor.
+//! text, traces its calls, shows the expansion as a page, or answers a script of edits and
+//! expansions, or an editor.
 #![tactic(auto)]
 
 mod call;
@@ -13,6 +14,7 @@ mod layout;
 mod place;
 mod request;
 mod server;
+mod trace;
 mod uri;
 mod view;
 mod warned;

@@ -92,6 +92,7 @@ fn job_of<'a>(
         options,
         layout: matches.get_flag("layout"),
         json: matches.get_flag("json"),
+        apart: matches.get_flag("files"),
         diagnostics: diagnostics_of(matches.get_str("diagnostics")),
         library: matches.get_str("std"),
         with: words_of(alloc, matches, "with")?,
@@ -100,6 +101,7 @@ fn job_of<'a>(
         files: words_of(alloc, matches, "file")?,
         externs: words_of(alloc, matches, "extern")?,
         root: matches.get_str("crate"),
+        steps: matches.get_str("to"),
     }))
 }
 

@@ -5,17 +5,18 @@ use crate::conditions::{cfg_of, under};
 use crate::crates::perform_crate;
 use crate::explain::explain;
 use crate::job::{Action, Job};
-use crate::json::expand_as_json;
+use crate::json::{Asked, answer_as_json};
 use crate::layout::expand_in_lines;
 use crate::place::{Place, named_place};
 use crate::server::serve_editor;
+use crate::trace::{Steps, most_steps, trace};
 use crate::view::view;
 use crate::warnings::warn;
 use any_grammar::AnyGrammar;
 use cfg_options::CfgOptions;
 use expander::{Options, Prelude, Status, Watched, run_after};
 use program_files::{Ended, Others, blank_front, misused, opened, others_of, read_whole, stopped};
-use replay_script::{Answered, End, answer_script, wrong_words};
+use replay_script::{Answered, End, Form, answer_script, wrong_words};
 use std::io;
 use std::io::{BufReader, Read};
 use std::process::ExitCode;
@@ -66,6 +67,10 @@ fn tell(
 ) -> io::Result<ExitCode> {
     let mut options = task.options;
     options.dialect.excuses = false;
+    if task.json {
+        let asked = Asked::Explanation(task.place);
+        return answer_as_json(rt, options, prelude, text, asked);
+    }
     match std::str::from_utf8(text) {
         Ok(text) => explain(rt, options, prelude, name, text, task.place),
         Err(_) => stopped(rt, "input is not UTF-8"),
@@ -93,12 +98,20 @@ fn replay<R: Read + Drop>(
     rt: &HostRuntime,
     options: Options<AnyGrammar>,
     prelude: Prelude,
+    form: Form,
     reader: R,
 ) -> io::Result<ExitCode> {
     let alloc = rt.alloc();
     let mut reader = BufReader::new(alloc, reader)?;
     let mut writer = Watched::new(rt.stdout());
-    let Answered { lines, end } = answer_script(alloc, &mut reader, &mut writer, options, prelude);
+    let Answered { lines, end } = answer_script(
+        alloc,
+        &mut reader,
+        &mut writer,
+        options,
+        prelude,
+        form,
+    );
     match end {
         End::Whole => Ok(ExitCode::SUCCESS),
         End::Wrong(wrong) => {
@@ -121,9 +134,44 @@ struct Task {
     layout: bool,
     // Whether the reply is told as JSON.
     json: bool,
-    // The place of the call that is expanded, or of the faults that are explained. Without one all
-    // are.
+    // The place of the call that is expanded, of those that are traced, or of the faults that are
+    // explained. Without one all are.
     place: Option<Place>,
+    // How many steps are traced at most.
+    steps: usize,
+}
+
+// Shows a text or its expansion. `name` is its file's.
+fn reply(
+    rt: &HostRuntime,
+    task: Task,
+    others: Others,
+    name: &str,
+    text: &[u8],
+) -> io::Result<ExitCode> {
+    let Task {
+        action,
+        options,
+        layout,
+        json,
+        ..
+    } = task;
+    match action {
+        Action::View => show(rt, options, others, name, text),
+        _ if json => answer_as_json(rt, options, others.prelude, text, Asked::Expansion),
+        _ if layout => expand_in_lines(rt, options, others.prelude, text),
+        _ => Ok(expand(rt, options, others.prelude, text)),
+    }
+}
+
+// Which steps a task asks for of a text. `file` is its file's name.
+fn steps_of<'a>(task: &Task, file: &'a str) -> Steps<'a> {
+    Steps {
+        file,
+        place: task.place,
+        most: task.steps,
+        json: task.json,
+    }
 }
 
 // Does a task on a whole text, in which what is no code is blank. `name` is its file's.
@@ -138,21 +186,12 @@ fn answer(
     if task.action == Action::Explain {
         return tell(rt, task, others.prelude, name, text);
     }
-    if let Some(place) = task.place {
-        return expand_at(rt, task, &others.prelude, text, place);
+    if task.action == Action::Trace {
+        return trace(rt, &task.options, &others, &steps_of(&task, name), text);
     }
-    let Task {
-        action,
-        options,
-        layout,
-        json,
-        ..
-    } = task;
-    match action {
-        Action::View => show(rt, options, others, name, text),
-        _ if json => expand_as_json(rt, options, others.prelude, text),
-        _ if layout => expand_in_lines(rt, options, others.prelude, text),
-        _ => Ok(expand(rt, options, others.prelude, text)),
+    match task.place {
+        Some(place) => expand_at(rt, task, &others.prelude, text, place),
+        None => reply(rt, task, others, name, text),
     }
 }
 
@@ -165,7 +204,8 @@ fn work_on<R: Read + Drop>(
     reader: R,
 ) -> io::Result<ExitCode> {
     if task.action == Action::Replay {
-        return replay(rt, task.options, others.prelude, reader);
+        let form = if task.json { Form::Json } else { Form::Text };
+        return replay(rt, task.options, others.prelude, form, reader);
     }
     match read_whole(rt.alloc(), reader) {
         Ok(mut text) => {
@@ -189,6 +229,7 @@ fn work(
         layout,
         json,
         file,
+        steps,
         ..
     } = job;
     let (file, place) = named_place(action, file);
@@ -198,6 +239,7 @@ fn work(
         layout,
         json,
         place,
+        steps: most_steps(steps),
     };
     match file {
         None => work_on(rt, task, others, "standard input", rt.stdin()),
@@ -227,6 +269,9 @@ pub(crate) fn perform(rt: &HostRuntime, job: Job<'_>) -> io::Result<ExitCode> {
     }
     if let Some(root) = job.root {
         return ended(perform_crate(rt, &job, root));
+    }
+    if job.apart {
+        return misused(rt, "--files", &"it takes --crate");
     }
     if job.action == Action::Macros {
         return misused(rt, "macros", &"it takes --crate");

@@ -99,6 +99,7 @@ pub record IsNew (bytes : List ℕ) (options : SessionOptions) (set : Option Cfg
   pub trees : live.session.trees ≡ []
   pub given : live.session.given ≡ 0
   pub answer : live.answer ≡ last.Nothing
+  pub current : live.is_current ≡ false
   pub sources : live.sources ≡ []
 
 -- why bytes are no text
@@ -153,7 +154,10 @@ pub record CanEdit (text : List ℕ) (start stop : ℕ) (bytes : List ℕ) : Typ
 abbrev pub EditTold : ℕ → ℕ → List ℕ → Live → Live → Code → Type 0
 EditTold start stop bytes old new code.Done =
     CanEdit old.session.text start stop bytes
-    × (new ≡ record old { session = record old.session { text = edited old.session.text start stop bytes } })
+    × (new ≡ record old {
+      session = record old.session { text = edited old.session.text start stop bytes };
+      is_current = false;
+    })
 EditTold start stop bytes old new code.Range =
     (IsRange old.session.text start stop → ⊥) × (new ≡ old)
 EditTold start stop bytes old new code.Length =
@@ -182,13 +186,18 @@ abbrev pub is_read : Answer → Bool
 is_read (last.Read e) = true
 is_read _ = false
 
+-- the text was expanded, and is as it was, as are the sources
+abbrev pub IsCurrent : Live → Live → Type 0
+IsCurrent old new = (new.is_current ≡ true) × (new.session.text ≡ old.session.text)
+    × (new.sources ≡ old.sources)
+
 -- an expansion: the session's reply, while its sources stay, or why there is none, and then nothing
 -- changed
 abbrev pub ExpandTold : Live → Live → Code → Type 0
 ExpandTold old new code.Done = Answers old new new.answer × (is_read new.answer ≡ true)
-    × (new.sources ≡ old.sources)
+    × IsCurrent old new
 ExpandTold old new code.Unread = Answers old new new.answer × (is_read new.answer ≡ false)
-    × (new.sources ≡ old.sources)
+    × IsCurrent old new
 ExpandTold old new code.Memory = new ≡ old
 ExpandTold old new code.Tokens = HasCause (layers_of old) old.session why.Tokens × (new ≡ old)
 ExpandTold old new code.Numbers = HasCause (layers_of old) old.session why.Numbers × (new ≡ old)

@@ -3,6 +3,7 @@ pub mod Sources
 pub mod Calls
 pub mod Conditions
 pub mod Answered
+pub mod Json
 pub mod Words
 pub mod Tellings
 pub mod Handles

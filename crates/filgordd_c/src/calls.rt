@@ -6,6 +6,7 @@ ghost use Rattle.filgordd_c.specs.Answered.{TokenRangesTold};
 ghost use Rattle.filgordd_c.specs.Calls.{BoundaryTold, EditTold, ExpandTold, FitTold, PreludeTold};
 ghost use Rattle.filgordd_c.specs.Calls.{SourceAdded};
 ghost use Rattle.filgordd_c.specs.Conditions.{texts};
+ghost use Rattle.filgordd_c.specs.Json.{JsonTold};
 ghost use Rattle.filgordd_c.specs.Tellings.{Looks, Opened, OpenedBy, TextTold, Told};
 ghost use Rattle.filgordd_c.specs.Words.{PositionTold};
 
@@ -171,6 +172,20 @@ pub(crate) fn printed(alloc: Global, handle: &mut Handle, room: &mut [u8]) -> Co
         return Code::Closed;
     };
     let code = last::printed(&live.as_ref().answer, room);
+    handle.put(alloc, live);
+    code
+}
+
+/// The last answer as a line of JSON, copied to the beginning of the room, and its length.
+pub(crate) fn json(alloc: Global, handle: &mut Handle, room: &mut [u8], len: &mut usize) -> Code
+    ensures { Looks ((room.new ≡ room.old)
+        × (len.new ≡ len.old)) (JsonTold room.old room.new len.old len.new) handle.old.held
+        handle.new.held result }
+{
+    let Some(live) = handle.take(alloc) else {
+        return Code::Closed;
+    };
+    let code = last::json(alloc, live.as_ref(), room, len);
     handle.put(alloc, live);
     code
 }

@@ -6,6 +6,7 @@ ghost use Rattle.filgordd_c.specs.Answered.{TokenRangesTold};
 ghost use Rattle.filgordd_c.specs.Calls.{BoundaryTold, EditTold, ExpandTold, FitTold, PreludeTold};
 ghost use Rattle.filgordd_c.specs.Calls.{SourceAdded, top_options};
 ghost use Rattle.filgordd_c.specs.Conditions.{texts};
+ghost use Rattle.filgordd_c.specs.Json.{JsonTold};
 ghost use Rattle.filgordd_c.specs.Tellings.{Looks, Opened, OpenedBy, Tells, TextTold, Told};
 ghost use Rattle.filgordd_c.specs.Words.{PositionTold, WordsTold, version, words_of_code};
 ghost use Rattle.filgordd_c.specs.Words.{words_of_kind, words_of_read_kind};
@@ -179,6 +180,22 @@ pub extern "C" fn filgordd_raw_printed(alloc: Global, handle: &mut Handle, room:
         handle.new.held) result }
 {
     calls::printed(alloc, handle, room).number()
+}
+
+/// The last answer as a line of JSON, copied to the beginning of the room, and its length, unless
+/// the text was edited since.
+#[unsafe(no_mangle)]
+pub extern "C" fn filgordd_raw_json(
+    alloc: Global,
+    handle: &mut Handle,
+    room: &mut [u8],
+    len: &mut usize,
+) -> u32
+    ensures { Tells (Looks ((room.new ≡ room.old)
+        × (len.new ≡ len.old)) (JsonTold room.old room.new len.old len.new) handle.old.held
+        handle.new.held) result }
+{
+    calls::json(alloc, handle, room, len).number()
 }
 
 /// The fault of this index.

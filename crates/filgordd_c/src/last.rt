@@ -1,13 +1,16 @@
 //! What is told of the last answer, written to where the caller says.
-ghost use Rattle.std.specs.Prelude.{◌≡◌};
+ghost use Rattle.std.specs.Prelude.{◌≡◌, Some, IfErr, IfOk, string_bytes};
 ghost use Rattle.filgordd_c.specs.Answered.{CountsTold, FaultTold, OfExpansion, OriginsTold};
 ghost use Rattle.filgordd_c.specs.Answered.{PrintedTold, ReadingFaultTold, SourcesTold};
 ghost use Rattle.filgordd_c.specs.Answered.{TokenRangesTold};
+ghost use Rattle.filgordd_c.specs.Json.{JsonTold, NoLine, line_of};
 
 use crate::answers::{ByteRange, Counts, ToldFault, counted, told, told_unread};
 use crate::code::Code;
-use crate::live::Answer;
+use crate::live::{Answer, Live};
 use crate::room::{copy_origins, copy_sources, copy_text, copy_token_ranges};
+use reply_json::{expansion_line, unread_line};
+use std::alloc::{AllocError, Global};
 
 /// How much the expansion has.
 pub(crate) fn counts(answer: &Answer, into: &mut Counts) -> Code
@@ -85,4 +88,45 @@ pub(crate) fn sources(answer: &Answer, room: &mut [u32]) -> Code
         return Code::Nothing;
     };
     copy_sources(expansion, room)
+}
+
+// The line of JSON for an answer of this text.
+fn line_of(alloc: Global, text: &str, answer: &Answer) -> Result<String, Code>
+    ensures line { IfOk result (λ line. line_of text.now answer.now ≡ Some (string_bytes line)) }
+    ensures why { IfErr result (NoLine text.now answer.now) }
+{
+    if text.len() > 0xffff_ffff {
+        return Err(Code::Length);
+    }
+    let line = match answer {
+        Answer::Nothing => return Err(Code::Nothing),
+        Answer::Unread(fault) => unread_line(alloc, text, *fault),
+        Answer::Read(expansion) => {
+            if expansion.printed().len() > 0xffff_ffff {
+                return Err(Code::Length);
+            }
+            expansion_line(alloc, text, expansion)
+        }
+    };
+    match line {
+        Ok(line) => Ok(line),
+        Err(AllocError) => Err(Code::Memory),
+    }
+}
+
+/// The last answer as a line of JSON, copied to the beginning of the room, and its length, unless
+/// the text was edited since.
+pub(crate) fn json(alloc: Global, live: &Live, room: &mut [u8], len: &mut usize) -> Code
+    ensures { JsonTold room.old room.new len.old len.new live.now result }
+{
+    if !live.is_current {
+        return Code::Nothing;
+    }
+    match line_of(alloc, live.session.text(), &live.answer) {
+        Ok(line) => {
+            *len = line.len();
+            copy_text(line.as_str(), room)
+        }
+        Err(code) => code,
+    }
 }

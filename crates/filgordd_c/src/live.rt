@@ -36,6 +36,8 @@ pub enum Answer {
 pub struct Live {
     pub session: Session<AnyGrammar>,
     pub answer: Answer,
+    /// Whether the text was expanded, and not edited since.
+    pub is_current: bool,
     pub sources: Sources,
 }
 
@@ -196,6 +198,7 @@ impl Live {
             Ok(session) => Ok(Live {
                 session,
                 answer: Answer::Nothing,
+                is_current: false,
                 sources: Sources::new(alloc),
             }),
             Err(_) => Err(Code::Memory),
@@ -262,7 +265,10 @@ impl Live {
             return Code::Utf8;
         };
         match self.session.edit(start, end, replacement) {
-            Ok(()) => Code::Done,
+            Ok(()) => {
+                self.is_current = false;
+                Code::Done
+            }
             Err(_) => Code::Memory,
         }
     }
@@ -274,10 +280,12 @@ impl Live {
         match self.session.expansion() {
             Ok(Reply::Read(expansion)) => {
                 self.answer = Answer::Read(expansion);
+                self.is_current = true;
                 Code::Done
             }
             Ok(Reply::Unread(fault)) => {
                 self.answer = Answer::Unread(fault);
+                self.is_current = true;
                 Code::Unread
             }
             Err(refusal) => refused(refusal),

@@ -1,10 +1,12 @@
 //! The machine: a body comes, and messages go.
-ghost use Rattle.std.specs.Prelude.{◌≡◌, [], ◌∷◌, IfOk, OnOk, Some, codes, map, option_and_then, option_map};
+ghost use Rattle.std.specs.Prelude.{◌≡◌, [], ◌∷◌, IfOk, OnOk, Some, codes, map, option_and_then};
+ghost use Rattle.std.specs.Prelude.{option_map};
 ghost use Rattle.serde_json.specs.Find.{get};
 ghost use Rattle.serde_json.specs.View.{view};
 ghost use Rattle.client_texts.specs.Views.{note_view};
 ghost use Rattle.rpc_messages.specs.Messages.{answered};
-ghost use Rattle.lsp_server.specs.Protocol.{method_named, note_told, phase_asked, phase_told, refused_by};
+ghost use Rattle.lsp_server.specs.Protocol.{method_named, note_told, phase_asked, phase_told};
+ghost use Rattle.lsp_server.specs.Protocol.{refused_by};
 ghost use Rattle.lsp_server.specs.Steps.{Steps, Takes, TextsFollow, error};
 
 use crate::capabilities::capabilities;

@@ -60,3 +60,8 @@ module _ (all : ℕ) where
   left_over (Some m) n e less =
       let over : nat_lt m n ≡ true = grind (arith, nat_tests) in
       sym (ap (λ b. if b then None else Some (Some (m - n))) over)
+
+  -- without a limit any number may be put out
+  pub no_limit : (most : Option ℕ) → is_some most ≡ false → unwrap_or most all ≡ all
+  no_limit None e = refl
+  no_limit (Some m) e = absurd (cc e)

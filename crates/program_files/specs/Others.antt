@@ -3,7 +3,7 @@ use Rattle.std.specs.Prelude.{◌≡◌, ◌≢◌, ℕ, ◌==◌, List, length,
 use Rattle.std.specs.List.{after_first, before_first, position_or_len}
 use Rattle.expander_sources.specs.Homes.{Home, home_named}
 use Rattle.tt_data.specs.declared.edition.Edition.{Edition}
-use Rattle.replay_script.specs.Editions.{edition_name}
+use Rattle.crate_picks.specs.Editions.{edition_name}
 use Rattle.program_files.specs.declared.other.Other.{Other}
 use Rattle.program_files.specs.declared.other.Other.TheVariants.{File, BadRoot, BadEdition}
 

@@ -2,11 +2,11 @@
 
 use crate::disk::Disk;
 use crate::files::misused;
+use crate::imports::{Brought, Import};
 use crate::load::Ended;
 use crate::other::{Other, other_of};
 use crate::walked::{Walked, crate_from};
-use crate_picks::push_places;
-use crate_walk::{Event, ImportItem, Place};
+use crate_walk::{Event, ImportItem};
 use expander::{Home, Prelude};
 use std::alloc::{AllocError, Global};
 use tt_data::TtFault;
@@ -78,37 +78,33 @@ impl Extern {
         Ok(())
     }
 
-    // Where the definition is that an import brings of the crate: by a path of its name and the
-    // macro's, under no other name.
-    fn imported(&self, item: &ImportItem) -> Option<Place> {
-        match item.path.as_slice() {
-            [root, name] if root.as_str() == self.home.root() => match &item.name {
-                Some(shown) if shown.as_str() == name.as_str() => self
-                    .walked
-                    .imports
-                    .export(name.as_str()),
-                _ => None,
-            },
-            _ => None,
+    // Adds what an import brings of the crate: a macro that it exports, by a path of the names of
+    // both, or by `*` all that it exports.
+    fn push_imported(&self, item: &ImportItem, brought: &mut Brought) -> Result<(), AllocError> {
+        match (item.path.as_slice(), &item.name) {
+            ([root, name], Some(shown)) if root.as_str() == self.home.root() => {
+                let place = self.walked.imports.export(name.as_str());
+                brought.push_at(shown.as_str(), place)
+            }
+            ([root], None) if root.as_str() == self.home.root() => {
+                self.walked.imports.push_exports(brought)
+            }
+            _ => Ok(()),
         }
     }
 
-    /// Where the definitions of the crate are that an event of another brings: an `extern crate`
-    /// with `macro_use` all that it exports, an import one.
-    pub(crate) fn brought(&self, alloc: Global, event: &Event) -> Result<Vec<Place>, AllocError> {
-        let mut places = Vec::new(alloc);
+    /// What an event of another crate brings of this one: an `extern crate` with `macro_use` all
+    /// that it exports, an import what it names.
+    pub(crate) fn brought(&self, alloc: Global, event: &Event) -> Result<Vec<Import>, AllocError> {
+        let mut brought = Brought::new(alloc);
         match event {
             Event::Crate(item) if item.keeps_macros && item.name.as_str() == self.home.root() => {
-                return self.walked.imports.exports(alloc);
+                self.walked.imports.push_exports(&mut brought)?;
             }
-            Event::Import(item) => {
-                if let Some(place) = self.imported(item) {
-                    places.push(place)?;
-                }
-            }
+            Event::Import(item) => self.push_imported(item, &mut brought)?,
             _ => {}
         }
-        Ok(places)
+        Ok(brought.all)
     }
 }
 
@@ -120,10 +116,9 @@ pub(crate) fn push_event(
     prelude: &mut Prelude,
 ) -> Result<(), TtFault> {
     for one in externs {
-        let places = one.brought(alloc, event)?;
-        let definitions = one.walked.definitions.as_slice();
-        let modules = &one.walked.modules;
-        push_places(alloc, modules, definitions, places.as_slice(), prelude)?;
+        for import in &one.brought(alloc, event)? {
+            one.walked.push_import(alloc, import, prelude)?;
+        }
     }
     Ok(())
 }

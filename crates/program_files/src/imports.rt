@@ -12,6 +12,32 @@ pub(crate) struct Import {
     pub(crate) place: Place,
 }
 
+/// Names that another crate has here, and where they lead in their own crate.
+#[derive(Drop)]
+pub(crate) struct Brought {
+    alloc: Global,
+    pub(crate) all: Vec<Import>,
+}
+
+impl Brought {
+    /// No name.
+    pub(crate) fn new(alloc: Global) -> Brought {
+        Brought {
+            alloc,
+            all: Vec::new(alloc),
+        }
+    }
+
+    /// Adds a name that leads to this place, if there is one.
+    pub(crate) fn push_at(&mut self, name: &str, place: Option<Place>) -> Result<(), AllocError> {
+        if let Some(place) = place {
+            let name = String::from_str(self.alloc, name)?;
+            self.all.push(Import { name, place })?;
+        }
+        Ok(())
+    }
+}
+
 /// What the modules of a crate offer, and the modules that are in each file.
 #[derive(Drop)]
 pub(crate) struct Imports {
@@ -86,18 +112,17 @@ impl Imports {
         }
     }
 
-    /// Where the definitions are that the root offers, in the order of their names.
-    pub(crate) fn exports(&self, alloc: Global) -> Result<Vec<Place>, AllocError> {
-        let mut places = Vec::new(alloc);
+    /// Adds what the root offers, in the order of the names.
+    pub(crate) fn push_exports(&self, brought: &mut Brought) -> Result<(), AllocError> {
         let Some(macros) = self.offers.macros_of(0) else {
-            return Ok(places);
+            return Ok(());
         };
-        for (_, target) in macros {
+        for (name, target) in macros {
             if let Target::Macro(place) = *target {
-                places.push(place)?;
+                brought.push_at(name.as_str(), Some(place))?;
             }
         }
-        Ok(places)
+        Ok(())
     }
 
     /// The definitions of other files that the modules in a file have by path.

@@ -11,12 +11,14 @@ mod lacking;
 mod library;
 mod listing;
 mod load;
+mod module_ends;
 mod other;
 mod picks;
 mod renamed;
 mod shown;
 mod source;
 mod spots;
+mod told;
 mod walked;
 mod whole;
 
@@ -28,7 +30,9 @@ pub use listing::listed;
 pub use load::{
     Ended, OtherWords, Others, Sources, fault_words, others_of, prelude_of, refusal, sources_of,
 };
+pub use module_ends::file_text;
 pub use shown::{one_line, push_shown};
 pub use source::blank_front;
+pub use told::fault_lines;
 pub use walked::Walked;
 pub use whole::{Whole, prelude_of_file, prelude_of_path, whole_from};

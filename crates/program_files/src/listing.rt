@@ -2,13 +2,13 @@
 ghost use Rattle.std.specs.Prelude.{◌<◌, length};
 
 use crate::externs::Extern;
-use crate::imports::{Import, name_at};
+use crate::imports::Import;
 use crate::lacking::{below, text_of};
 use crate::load::{Loaded, Sources};
 use crate::shown::push_shown;
 use crate::spots::{Spot, Spots};
-use crate::whole::Whole;
-use crate_walk::{Event, MacroItem, Modules, Place};
+use crate::whole::{Whole, brings_all};
+use crate_walk::{Event, MacroItem, ModuleItem, Modules, Place};
 use expander::Source;
 use std::alloc::{AllocError, Global};
 
@@ -45,6 +45,12 @@ fn start_at(modules: &Modules, place: Place) -> usize {
         Some(Event::Macro(item)) => item.start as usize,
         _ => 0,
     }
+}
+
+// Whether the definitions of an inline module, which is the event of this index, stay in scope
+// after it: by an attribute of its own, or by its first item.
+fn keeps_macros(item: &ModuleItem, events: &[Event], i: usize) -> bool {
+    item.keeps_macros || matches!(events.get(i.saturating_add(1)), Some(Event::MacroUse))
 }
 
 // No spot of the files of other crates.
@@ -128,8 +134,14 @@ impl<'a> Listing<'a> {
         self.push(name, file, spot, from)
     }
 
-    // Adds the definition at a place of the other crate of this index.
-    fn push_extern(&mut self, index: usize, one: &Extern, place: Place) -> Result<(), AllocError> {
+    // Adds what is brought of the other crate of this index.
+    fn push_extern(
+        &mut self,
+        index: usize,
+        one: &Extern,
+        import: &Import,
+    ) -> Result<(), AllocError> {
+        let place = import.place;
         let modules = &one.walked.modules;
         let text = text_of(modules, place.file);
         let Some(spots) = self.externs.get_mut(index) else {
@@ -137,15 +149,14 @@ impl<'a> Listing<'a> {
         };
         let spot = spots.spot(place.file, text, start_at(modules, place))?;
         let file = below(self.folder, modules.file_name(place.file).unwrap_or(""));
-        let name = name_at(modules, place).unwrap_or("");
-        self.push(name, file, spot, "extern")
+        self.push(import.name.as_str(), file, spot, "extern")
     }
 
     // Adds what an event brings of other crates.
     fn push_event(&mut self, externs: &[Extern], event: &Event) -> Result<(), AllocError> {
         for (index, one) in externs.iter().enumerate() {
-            for place in &one.brought(self.alloc, event)? {
-                self.push_extern(index, one, *place)?;
+            for import in &one.brought(self.alloc, event)? {
+                self.push_extern(index, one, import)?;
             }
         }
         Ok(())
@@ -187,13 +198,13 @@ impl<'a> Listing<'a> {
         Ok(())
     }
 
-    // Adds what a file itself brings of other crates by `extern crate`.
+    // Adds what a file itself brings of other crates by `extern crate` and by `*`.
     fn push_crates(&mut self, whole: &Whole, file: usize) -> Result<(), AllocError> {
         let Some(content) = whole.walked.modules.content(file) else {
             return Ok(());
         };
         for event in content.events() {
-            if let Event::Crate(_) = event {
+            if brings_all(event) {
                 self.push_event(whole.externs.as_slice(), event)?;
             }
         }
@@ -225,14 +236,15 @@ impl<'a> Listing<'a> {
             return Ok(());
         };
         let mut next = 0;
-        for (i, event) in content.events().iter().enumerate() {
+        let events = content.events();
+        for (i, event) in events.iter().enumerate() {
             match event {
                 _ if i < next => {}
                 Event::Macro(item) => {
                     let place = Place { file, event: i };
                     self.push_item(modules, place, item)?;
                 }
-                Event::Inline(item, count) if !item.keeps_macros => {
+                Event::Inline(item, count) if !keeps_macros(item, events, i) => {
                     next = i.saturating_add(*count).saturating_add(1);
                 }
                 _ => {}

@@ -2,8 +2,8 @@
 ghost use Rattle.std.specs.Prelude.{◌≡◌, option_map, IfOk};
 ghost use Rattle.program_files.specs.Others.{Meant, parts_of};
 
+use crate_picks::edition_of;
 use expander::Home;
-use replay_script::edition_of;
 use std::alloc::{AllocError, Global};
 
 /// What a word names.

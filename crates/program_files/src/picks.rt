@@ -2,10 +2,10 @@
 ghost use Rattle.std.specs.Prelude.{◌≡◌, ◌<◌, ◌++◌, OnOk, flat_map, length};
 ghost use Rattle.expander_sources.specs.Sources.{item_at};
 ghost use Rattle.program_files.specs.Picking.{exports_of, is_exported, is_of, picks_at_side, picks_behind, picks_of_library};
-ghost use Rattle.replay_script.specs.Picks.{picks_of_source};
+ghost use Rattle.crate_picks.specs.SourcePicks.{picks_of_source};
 
+use crate_picks::push_source;
 use expander::{Home, Prelude, Source};
-use replay_script::push_source;
 use std::alloc::Global;
 use tt_data::TtFault;
 

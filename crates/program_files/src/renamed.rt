@@ -1,9 +1,17 @@
 //! A definition under another name.
 
 use crate_picks::Definitions;
-use expander::{Prelude, Source, SourceRead, TextRange};
+use expander::{Home, Prelude, Source, SourceRead, TextRange};
 use std::alloc::{AllocError, Global};
 use tt_data::TtFault;
+
+/// The same home.
+pub(crate) fn home_of(alloc: Global, home: Option<&Home>) -> Result<Option<Home>, AllocError> {
+    match home {
+        Some(home) => Ok(Some(home.try_clone(alloc)?)),
+        None => Ok(None),
+    }
+}
 
 // A part of a text: nothing where there is no such part.
 fn part(text: &str, start: u32, end: u32) -> &str {
@@ -25,7 +33,8 @@ fn renamed(
 }
 
 /// Adds the definition whose name begins at this offset of a text, under another name. It is a
-/// source of its own, so the origins of its tokens are counted from its beginning.
+/// source of its own, at the same home, so the origins of its tokens are counted from its
+/// beginning.
 pub(crate) fn push_renamed(
     alloc: Global,
     definitions: &Definitions,
@@ -43,7 +52,8 @@ pub(crate) fn push_renamed(
     if number == 0 || text.len() > u32::MAX as usize {
         return Ok(());
     }
-    match Source::new(alloc, text.as_str(), number, None)? {
+    let home = home_of(alloc, source.home())?;
+    match Source::new(alloc, text.as_str(), number, home)? {
         SourceRead::Read(source) if source.len() > 0 => prelude.push(alloc, &source, 0),
         _ => Ok(()),
     }

@@ -1,14 +1,19 @@
 //! A crate on the disk, from its root.
-ghost use Rattle.std.specs.Prelude.{◌≤◌};
+ghost use Rattle.std.specs.Prelude.{◌≡◌, ◌≤◌, IfOk, true};
+ghost use Rattle.crate_walk.specs.Closing.{closes};
+ghost use Rattle.crate_walk.specs.Modules.{steps_of};
+ghost use Rattle.crate_walk.specs.WholeTexts.{IsWhole};
 
 use crate::disk::Disk;
 use crate::files::{misused, opened};
-use crate::imports::Imports;
+use crate::imports::{Import, Imports};
+use crate::lacking::text_of;
 use crate::load::{Ended, after, fault_words, refusal};
+use crate::renamed::{home_of, push_renamed};
 use crate_imports::offers_of;
-use crate_picks::{Definitions, FilePicks};
-use crate_walk::{Content, Event, Modules, textual_picks, walk_crate};
-use expander::{Home, Source, SourceRead};
+use crate_picks::{Definitions, FilePicks, push_places};
+use crate_walk::{Content, Event, FileText, MacroItem, Modules, joined, textual_picks, walk_crate};
+use expander::{Home, Prelude, Source, SourceRead};
 use std::alloc::{AllocError, Global};
 use std::process::ExitCode;
 use tt_data::TtFault;
@@ -24,19 +29,63 @@ pub struct Walked {
     pub(crate) definitions: Vec<Option<Definitions>>,
     pub(crate) seen: FilePicks,
     pub(crate) imports: Imports,
+    ghost ended: { closes 1 (steps_of modules) ≡ true },
+}
+
+impl Walked {
+    /// The whole crate as one text: that of the root, in which the text of each file that was
+    /// entered stands in braces in the place of its module's `;`. These are the texts of the files,
+    /// in the order of their numbers. A module stays as it is where its file has no text.
+    pub fn whole_text(
+        &self,
+        alloc: Global,
+        texts: &[Option<FileText>],
+    ) -> Result<Vec<u8>, AllocError>
+        ensures { IfOk result (λ out.
+            IsWhole texts.now (steps_of self.now.modules) out.items) }
+    {
+        joined(alloc, self.modules.steps(), texts)
+    }
+
+    // Adds a definition under the name of an import, which is another.
+    fn push_other_name(
+        &self,
+        alloc: Global,
+        import: &Import,
+        item: &MacroItem,
+        prelude: &mut Prelude,
+    ) -> Result<(), TtFault> {
+        let file = import.place.file;
+        let Some(Some(definitions)) = self.definitions.get(file) else {
+            return Ok(());
+        };
+        let text = text_of(&self.modules, file);
+        let name = import.name.as_str();
+        push_renamed(alloc, definitions, text, item.start as usize, name, prelude)
+    }
+
+    /// Adds the definition at the place of an import, under the name that it has there.
+    pub(crate) fn push_import(
+        &self,
+        alloc: Global,
+        import: &Import,
+        prelude: &mut Prelude,
+    ) -> Result<(), TtFault> {
+        match self.modules.event(import.place) {
+            Some(Event::Macro(item)) if item.name != import.name => {
+                self.push_other_name(alloc, import, item, prelude)
+            }
+            _ => {
+                let definitions = self.definitions.as_slice();
+                push_places(alloc, &self.modules, definitions, &[import.place], prelude)
+            }
+        }
+    }
 }
 
 // Whether a file declares a definition.
 fn has_definitions(events: &[Event]) -> bool {
     events.iter().any(|event| matches!(event, Event::Macro(_)))
-}
-
-// The same home.
-fn home_of(alloc: Global, home: Option<&Home>) -> Result<Option<Home>, AllocError> {
-    match home {
-        Some(home) => Ok(Some(home.try_clone(alloc)?)),
-        None => Ok(None),
-    }
 }
 
 // The definitions of a text, as the source with this number, of this home.

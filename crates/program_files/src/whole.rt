@@ -4,12 +4,10 @@ use crate::chosen::file_at;
 use crate::disk::Disk;
 use crate::externs::{Extern, externs_of, push_event};
 use crate::imports::Import;
-use crate::lacking::text_of;
 use crate::load::{Ended, OtherWords, Sources, prelude_of, sources_of};
-use crate::renamed::push_renamed;
 use crate::walked::{Walked, crate_from};
 use crate_picks::push_places;
-use crate_walk::{Event, MacroItem, Place};
+use crate_walk::{Event, Place};
 use expander::Prelude;
 use std::alloc::Global;
 use tt_data::TtFault;
@@ -42,6 +40,15 @@ pub fn whole_from(
     })
 }
 
+/// Whether an event may bring all that another crate exports.
+pub(crate) fn brings_all(event: &Event) -> bool {
+    match event {
+        Event::Crate(_) => true,
+        Event::Import(item) => item.name.is_none(),
+        _ => false,
+    }
+}
+
 impl Whole {
     // Adds the definition at a place, or what it brings of another crate.
     fn push_place(
@@ -60,7 +67,7 @@ impl Whole {
         }
     }
 
-    // Adds what the file itself brings of other crates by `extern crate`.
+    // Adds what the file itself brings of other crates by `extern crate` and by `*`.
     fn push_crates(
         &self,
         alloc: Global,
@@ -71,28 +78,11 @@ impl Whole {
             return Ok(());
         };
         for event in content.events() {
-            if let Event::Crate(_) = event {
+            if brings_all(event) {
                 push_event(alloc, self.externs.as_slice(), event, prelude)?;
             }
         }
         Ok(())
-    }
-
-    // Adds a definition under the name of an import, which is another.
-    fn push_other_name(
-        &self,
-        alloc: Global,
-        import: &Import,
-        item: &MacroItem,
-        prelude: &mut Prelude,
-    ) -> Result<(), TtFault> {
-        let file = import.place.file;
-        let Some(Some(definitions)) = self.walked.definitions.get(file) else {
-            return Ok(());
-        };
-        let text = text_of(&self.walked.modules, file);
-        let name = import.name.as_str();
-        push_renamed(alloc, definitions, text, item.start as usize, name, prelude)
     }
 
     // Adds an import, under the name that it has in its file.
@@ -103,9 +93,7 @@ impl Whole {
         prelude: &mut Prelude,
     ) -> Result<(), TtFault> {
         match self.walked.modules.event(import.place) {
-            Some(Event::Macro(item)) if item.name != import.name => {
-                self.push_other_name(alloc, import, item, prelude)
-            }
+            Some(Event::Macro(_)) => self.walked.push_import(alloc, import, prelude),
             _ => self.push_place(alloc, import.place, prelude),
         }
     }
@@ -113,7 +101,7 @@ impl Whole {
 
 /// The definitions that a file of a crate is expanded after, the nearest last: those of the
 /// library and of single files, those of other crates behind their roots, those by the file's
-/// place and its `extern crate`, and those that it imports.
+/// place, its `extern crate` and its imports by `*` of other crates, and those that it imports.
 pub fn prelude_of_file(alloc: Global, whole: &Whole, file: usize) -> Result<Prelude, TtFault> {
     let mut prelude = prelude_of(alloc, &whole.sources)?;
     for one in &whole.externs {

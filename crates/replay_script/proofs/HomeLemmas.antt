@@ -4,7 +4,7 @@ use Rattle.std.specs.Prelude.{if◌then◌else◌}
 use Rattle.tt_data.specs.declared.edition.Edition.{Edition}
 use Rattle.tt_data.specs.declared.edition.Edition.TheVariants.{Edition2015, Edition2018, Edition2021, Edition2024}
 use Rattle.expander_sources.specs.Homes.{Home, home_named, is_root_word}
-use Rattle.replay_script.specs.Editions.{edition_name}
+use Rattle.crate_picks.specs.Editions.{edition_name}
 use Rattle.replay_script.specs.Words.{IsHome, Lacks}
 use Rattle.replay_script.proofs.WordLemmas.{cut_same, without_mark}
 

@@ -108,7 +108,7 @@ module _ (layers : Layers) (depth : ℕ) where
       (subst (λ (rs : List Reading). AreLineAnswers layers depth (stood (text_after text c a) rs) (asked_all commands) answers) (readings_same text reads a) h.1) in
       (a ∷ later.0, ap (λ (xs : List LineAnswer). told.Command a ∷ xs) later.1, (answer_is c a text reads h.0, later.2))
   answers_are (c ∷ commands) (told.Source n k ∷ answers) text reads h = absurd h.0
-  answers_are (c ∷ commands) (told.Unread fault ∷ answers) text reads h = absurd h.0
+  answers_are (c ∷ commands) (told.Unread n t fault ∷ answers) text reads h = absurd h.0
   answers_are (c ∷ commands) (told.Prelude n ∷ answers) text reads h = absurd h.0
   answers_are (c ∷ commands) (told.BadPrelude ∷ answers) text reads h = absurd h.0
   answers_are (c ∷ commands) (told.Refused refusal ∷ answers) text reads h = absurd h.0

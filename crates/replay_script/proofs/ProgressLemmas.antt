@@ -1,5 +1,5 @@
 -- A line's turn is an answer, by where the script stands, and leaves the script where the answer says.
-use Rattle.std.proofs.Common.{◌≡◌, ℕ, ◌≤◌, ◌^◌, List, [], ◌∷◌, Option, Some, refl, ap, sym, subst, ◌∙◌}
+use Rattle.std.proofs.Common.{◌≡◌, ℕ, ◌+◌, ◌-◌, ◌<◌, ◌≤◌, ◌^◌, length, length-append, length-drop, length-take-le, take, drop, List, [], ◌∷◌, ◌++◌, Option, Some, refl, ap, sym, subst, ◌∙◌, arith}
 use Rattle.std.specs.Prelude.{Result, Ok, Err, if◌then◌else◌, nat_eq, option_and_then, option_map, string_bytes}
 use Rattle.bridge.specs.declared.reading.outcome.ReadFault.{ReadFault}
 use Rattle.tt_data.specs.Forest.{Forest}
@@ -21,7 +21,7 @@ use Rattle.expander_session.specs.declared.commands.Command.TheVariants.{Edit, E
 use Rattle.expander_session.specs.declared.session.Reply.{Reply}
 use Rattle.expander_session.specs.declared.session.Reply.TheVariants.{Read, Unread}
 use Rattle.expander_sources.specs.Sources.{Source}
-use Rattle.replay_script.specs.LineTurns.{LineTurn}
+use Rattle.replay_script.specs.LineTurns.{IsAnswerable, IsShort, LineTurn}
 use Rattle.replay_script.specs.Picks.{Picked, SourceTable, all_picked, picked_by, picked_of, prelude_of, with_source}
 use Rattle.replay_script.specs.Progress.{IsCommandAnswer, IsLineAnswer, IsPreludeTold, Progress, after, after_command, after_picks, after_source, given_to, looked_last, source_read, trees_last}
 use Rattle.replay_script.specs.Scripts.{indices_of}
@@ -241,7 +241,7 @@ goes_line layers old new had have at (asked.Command c) (told.Command a) r agree 
     let g = goes layers old new at c a r h.0 in
     record { answers = g.answers; remembers = g.remembers; agree = λ n. h.1 n ∙ agree n; is_set = g.is_set }
 goes_line layers old new had have at (asked.Command c) (told.Source m k) r agree h = absurd h
-goes_line layers old new had have at (asked.Command c) (told.Unread fault) r agree h = absurd h
+goes_line layers old new had have at (asked.Command c) (told.Unread number source fault) r agree h = absurd h
 goes_line layers old new had have at (asked.Command c) (told.Prelude count) r agree h = absurd h
 goes_line layers old new had have at (asked.Command c) told.BadPrelude r agree h = absurd h
 goes_line layers old new had have at (asked.Command c) (told.Refused refusal) r agree h = absurd h
@@ -254,7 +254,7 @@ goes_line layers old new had have at (asked.Source n home text) (told.Source m k
           (λ i. h.1.kept.2 i ∙ one_more_source had at.sources agree h.1.kept.0 i);
       is_set = (leaves_all old new h.0).is_set;
     }
-goes_line layers old new had have at (asked.Source n home text) (told.Unread fault) r agree h = record {
+goes_line layers old new had have at (asked.Source n home text) (told.Unread number source fault) r agree h = record {
   answers = h.1.is_answer;
   remembers = unchanged layers old.depth old new at r h.0;
   agree = λ i. h.1.kept i ∙ agree i;
@@ -301,4 +301,68 @@ goes_line layers old new had have at (asked.Prelude picks) (told.Refused Tokens)
 goes_line layers old new had have at (asked.Prelude picks) (told.Refused Numbers) r agree h = absurd h.0.is_answer
 goes_line layers old new had have at (asked.Prelude picks) (told.Command a) r agree h = absurd h.0.is_answer
 goes_line layers old new had have at (asked.Prelude picks) (told.Source m k) r agree h = absurd h.0.is_answer
-goes_line layers old new had have at (asked.Prelude picks) (told.Unread fault) r agree h = absurd h.0.is_answer
+goes_line layers old new had have at (asked.Prelude picks) (told.Unread number source fault) r agree h = absurd h.0.is_answer
+
+-- what cannot be read as a source is short enough
+pub short_turn : {G : Type 0} → (layers : Layers) (old new : State G) (had have : Sources) (line : Line) (answer : LineAnswer)
+    → IsAnswerable line → LineTurn layers old new had have line answer → IsShort answer
+short_turn layers old new had have line (told.Command a) can h = tt
+short_turn layers old new had have line (told.Source m k) can h = tt
+short_turn layers old new had have line (told.Prelude count) can h = tt
+short_turn layers old new had have line told.BadPrelude can h = tt
+short_turn layers old new had have line (told.Refused refusal) can h = tt
+short_turn layers old new had have (asked.Command c) (told.Unread number source fault) can h = absurd h
+short_turn layers old new had have (asked.Source n home text) (told.Unread number source fault) can h =
+    subst (λ (bytes : List ℕ). length bytes < 2 ^ 32) (sym h.1.is_answer.1) can.1
+short_turn layers old new had have (asked.Prelude picks) (told.Unread number source fault) can h = absurd h.0.is_answer
+
+-- ---- texts that are short enough for places
+
+-- an edit that fits leaves a text that is short enough
+short_edit : (text : List ℕ) (start stop : ℕ) (replacement : List ℕ) → start ≤ stop → stop ≤ length text → length text - (stop - start) + length replacement < 2 ^ 32
+    → length (take start text ++ (replacement ++ drop stop text)) < 2 ^ 32
+short_edit text start stop replacement order within fits =
+    let all = length-append (take start text) (replacement ++ drop stop text) in
+    let rest = length-append replacement (drop stop text) in
+    let front = length-take-le start text (omega (arith, order, within)) in
+    let back = length-drop stop text in
+    omega (arith, order, within, fits, all, rest, front, back)
+
+-- the same text is
+same_text : {G : Type 0} → (old new : State G) → length old.text < 2 ^ 32 → new.text ≡ old.text → length new.text < 2 ^ 32
+same_text old new short same = subst (λ (t : List ℕ). length t < 2 ^ 32) (sym same) short
+
+same_session : {G : Type 0} → (old new : State G) → length old.text < 2 ^ 32 → new ≡ old → length new.text < 2 ^ 32
+same_session old new short same = same_text old new short (ap (λ s. s.text) same)
+
+short_command : {G : Type 0} → (layers : Layers) (old new : State G) (command : Command) (answer : Answer) → length old.text < 2 ^ 32
+    → Turn layers old new command answer → length new.text < 2 ^ 32
+short_command layers old new (Edit start stop replacement) Edited short h =
+    subst (λ (t : List ℕ). length t < 2 ^ 32) (sym (ap (λ s. s.text) h.1)) (short_edit old.text start stop (string_bytes replacement) h.0.order h.0.to.0 h.0.fits)
+short_command layers old new (Edit start stop replacement) BadEdit short h = same_session old new short h.1
+short_command layers old new (Edit start stop replacement) (Refused Memory) short h = same_session old new short h.1
+short_command layers old new (Edit start stop replacement) (Refused Tokens) short h = absurd h
+short_command layers old new (Edit start stop replacement) (Refused Numbers) short h = absurd h
+short_command layers old new (Edit start stop replacement) (Replied reply) short h = absurd h
+short_command layers old new Expand (Replied (Read e)) short h = same_text old new short h.1.text
+short_command layers old new Expand (Replied (Unread fault)) short h = same_session old new short h.1
+short_command layers old new Expand (Refused refusal) short h = same_session old new short h.1
+short_command layers old new Expand Edited short h = absurd h
+short_command layers old new Expand BadEdit short h = absurd h
+
+-- after a line's turn the text is short enough if it was before
+pub short_text : {G : Type 0} → (layers : Layers) (old new : State G) (had have : Sources) (line : Line) (answer : LineAnswer) → length old.text < 2 ^ 32
+    → LineTurn layers old new had have line answer → length new.text < 2 ^ 32
+short_text layers old new had have (asked.Command c) (told.Command a) short h = short_command layers old new c a short h.0
+short_text layers old new had have (asked.Command c) (told.Source m k) short h = absurd h
+short_text layers old new had have (asked.Command c) (told.Unread number source fault) short h = absurd h
+short_text layers old new had have (asked.Command c) (told.Prelude count) short h = absurd h
+short_text layers old new had have (asked.Command c) told.BadPrelude short h = absurd h
+short_text layers old new had have (asked.Command c) (told.Refused refusal) short h = absurd h
+short_text layers old new had have (asked.Source n home text) answer short h = same_session old new short h.0
+short_text layers old new had have (asked.Prelude picks) (told.Prelude count) short h = same_text old new short (ap (λ s. s.text) h.0.kept.2)
+short_text layers old new had have (asked.Prelude picks) (told.Command a) short h = same_session old new short h.0.kept
+short_text layers old new had have (asked.Prelude picks) (told.Source m k) short h = same_session old new short h.0.kept
+short_text layers old new had have (asked.Prelude picks) (told.Unread number source fault) short h = same_session old new short h.0.kept
+short_text layers old new had have (asked.Prelude picks) told.BadPrelude short h = same_session old new short h.0.kept
+short_text layers old new had have (asked.Prelude picks) (told.Refused refusal) short h = same_session old new short h.0.kept

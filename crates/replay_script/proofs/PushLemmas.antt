@@ -9,7 +9,8 @@ use Rattle.expander_scope.specs.Refusals.{refusal_of}
 use Rattle.expander_scope.specs.declared.refusal.Refusal.{Refusal}
 use Rattle.tt_data.specs.fault.TtFault.{TtFault}
 use Rattle.tt_data.specs.fault.TtFault.TheVariants as fault
-use Rattle.replay_script.specs.Picks.{Picked, SourceTable, all_picked, behind_own, count_of, named_by, picked_by, picked_of, picks_at, prelude_of}
+use Rattle.crate_picks.specs.SourcePicks.{behind_own}
+use Rattle.replay_script.specs.Picks.{Picked, SourceTable, all_picked, count_of, named_by, picked_by, picked_of, picks_at, prelude_of}
 use Rattle.replay_script.specs.Progress.{IsPreludeAnswer}
 use Rattle.replay_script.specs.Scripts.{indices_of}
 use Rattle.replay_script.specs.declared.answer.LineAnswer.TheVariants as told

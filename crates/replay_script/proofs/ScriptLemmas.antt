@@ -1,7 +1,6 @@
 -- Lines that are read and answered one after another.
-use Rattle.std.proofs.Common.{◌≡◌, ◌≢◌, ℕ, ◌+◌, Bool, true, false, List, [], ◌∷◌, ◌++◌, refl, sym, ap, ◌∙◌, subst, arith, length, length-append, append_assoc, append-nil, take, Option, Some, None}
+use Rattle.std.proofs.Common.{◌≡◌, ◌≢◌, ℕ, ◌+◌, ◌<◌, ◌^◌, Bool, true, false, List, [], ◌∷◌, ◌++◌, refl, sym, ap, ◌∙◌, subst, arith, length, length-append, append_assoc, append-nil, take, Option, Some, None}
 use Rattle.std.proofs.Math.Seq.{take-append-add}
-use Rattle.std.proofs.lemmas.List.Concat.{flat_map-append}
 use Rattle.std.specs.Io.KnownBytes.{Appends, Consumes, IsAtEnd}
 use Rattle.std.specs.Prelude.{Err, IfSome, codes, if◌then◌else◌, zero, suc}
 use Rattle.tt_data.specs.Forest.{Forest}
@@ -16,7 +15,8 @@ use Rattle.replay_script.specs.Progress.{AreLineAnswers, Progress, after, begun_
 use Rattle.replay_script.specs.Replays.{Answers, HasCount, HasEnd, HasHead, IsReplayed, IsWritten, asking}
 use Rattle.replay_script.specs.Scripts.{AreSaid, HasLine, Says}
 use Rattle.replay_script.specs.SourceTables.{source_in}
-use Rattle.replay_script.specs.Told.{all_told, answer_told}
+use Rattle.replay_script.specs.Written.{all_written, written}
+use Rattle.replay_script.specs.declared.form.Form.{Form}
 use Rattle.replay_script.specs.Words.{Lacks}
 use Rattle.replay_script.specs.declared.answer.LineAnswer.{LineAnswer}
 use Rattle.replay_script.specs.declared.line.Line.{Line}
@@ -24,7 +24,7 @@ use Rattle.replay_script.specs.declared.script.Answered.{Answered}
 use Rattle.replay_script.specs.declared.script.End.{End}
 use Rattle.replay_script.specs.declared.script.End.TheVariants.{Whole, Wrong, ReadFailed, WriteFailed, Memory, TooLong}
 use Rattle.replay_script.specs.declared.sources.Sources.{Sources}
-use Rattle.replay_script.proofs.ProgressLemmas.{Agree, GoesOn, IsSet, Remembers, goes_line}
+use Rattle.replay_script.proofs.ProgressLemmas.{Agree, GoesOn, IsSet, Remembers, goes_line, short_text}
 use Rattle.replay_script.proofs.WordLemmas.{cut_same}
 
 -- ---- bytes that are known
@@ -145,7 +145,10 @@ goes_set answer_of old new had have grammar edition dialect depth at line answer
 
 -- ---- where a script stands
 
-module _ {G : Type 0} (answer_of : G → Grammar) (grammar : G) (edition : Edition) (dialect : Dialect) (depth : ℕ) (prelude : List Forest) where
+no_text : (text : List ℕ) → text ≡ [] → length text < 2 ^ 32
+no_text text is = subst (λ (t : List ℕ). length t < 2 ^ 32) (sym is) (omega arith)
+
+module _ {G : Type 0} (answer_of : G → Grammar) (grammar : G) (edition : Edition) (dialect : Dialect) (depth : ℕ) (prelude : List Forest) (form : Form) where
   abbrev its_layers : Layers
   its_layers = layers (answer_of grammar) edition dialect
 
@@ -162,10 +165,17 @@ module _ {G : Type 0} (answer_of : G → Grammar) (grammar : G) (edition : Editi
     pub is_set : IsSet s grammar edition dialect depth
     pub remembers : Remembers its_layers depth s at
     pub agree : Agree kept at.sources
+    -- the text is short enough for places
+    pub short : length s.text < 2 ^ 32
     -- whatever answers the lines that are left makes the answers so far those of all
     pub more : (left : List Line) (later : List LineAnswer) → AreLineAnswers its_layers depth at left later
         → AreLineAnswers its_layers depth (begun_with prelude) (lines ++ left) (answers ++ later)
-    pub is_told : told ≡ all_told origins answers
+    -- before the first line nothing is written
+    pub first : count ≡ 0 → (at ≡ begun_with prelude) × (told ≡ [])
+    -- and what is written of the lines that are left comes behind what is written so far
+    pub writes : (left : List Line) (later : List LineAnswer)
+        → all_written form origins (begun_with prelude) (lines ++ left) (answers ++ later)
+        ≡ told ++ all_written form origins at left later
     pub counted : count ≡ length lines + (if origins then 1 else 0)
 
   pub far_first : (s : State G) (kept : Sources) (had : Option (List ℕ)) → IsNew s → s.prelude ≡ prelude → IsSet s grammar edition dialect depth
@@ -182,8 +192,10 @@ module _ {G : Type 0} (answer_of : G → Grammar) (grammar : G) (edition : Editi
     is_set = set;
     remembers = record { text = new.text; prelude = is; held = new.held; trees = new.trees; given_is = new.given_is };
     agree = none;
+    short = no_text s.text new.text;
     more = λ left later h. h;
-    is_told = refl;
+    first = λ none. (refl, refl);
+    writes = λ left later. refl;
     counted = refl;
   }
 
@@ -202,16 +214,20 @@ module _ {G : Type 0} (answer_of : G → Grammar) (grammar : G) (edition : Editi
     is_set = far.is_set;
     remembers = far.remembers;
     agree = far.agree;
+    short = far.short;
     more = λ left later h. subst (λ (ls : List Line). AreLineAnswers its_layers depth (begun_with prelude) (ls ++ left) later) far.begun.3
         (subst (λ (xs : List LineAnswer). AreLineAnswers its_layers depth (begun_with prelude) (far.lines ++ left) (xs ++ later)) far.begun.4 (far.more left later h));
-    is_told = far.is_told ∙ ap (all_told origins) far.begun.4;
+    first = λ none. absurd (omega (arith, none));
+    writes = λ left later.
+        ap (λ (p : Progress). all_written form true p left later) (sym (far.first refl).0)
+        ∙ ap (λ (t : List ℕ). t ++ all_written form true far.at left later) (sym (far.first refl).1);
     counted = refl;
   }
   far_origins s kept had mid now (suc n) origins told bytes far first read is = absurd (omega (arith, first))
 
   -- a line is answered
   pub far_line : (old new : State G) (kept have : Sources) (had mid now : Option (List ℕ)) (n : ℕ) (origins : Bool) (told more bytes : List ℕ) → Far old kept had mid n origins told
-      → Consumes mid now bytes → Answering (layers_of answer_of old) old new kept have bytes origins more → (n ≡ 0 → bytes ≢ asking)
+      → Consumes mid now bytes → Answering (layers_of answer_of old) old new kept have bytes form origins more → (n ≡ 0 → bytes ≢ asking)
       → Far new have had now (n + 1) origins (told ++ more)
   far_line old new kept have had mid now n origins told more bytes far read line other =
       let g = goes_set answer_of old new kept have grammar edition dialect depth far.at line.asked line.answer far.is_set far.remembers far.agree line.turn in
@@ -234,19 +250,29 @@ module _ {G : Type 0} (answer_of : G → Grammar) (grammar : G) (edition : Editi
         };
         remembers = g.remembers;
         agree = g.agree;
+        short = short_text (layers_of answer_of old) old new kept have line.asked line.answer far.short line.turn;
         more = λ left later h.
             subst (λ (ls : List Line). AreLineAnswers its_layers depth (begun_with prelude) ls ((far.answers ++ line.answer ∷ []) ++ later))
             (sym (append_assoc far.lines (line.asked ∷ []) left))
             (subst (λ (xs : List LineAnswer). AreLineAnswers its_layers depth (begun_with prelude) (far.lines ++ line.asked ∷ left) xs)
             (sym (append_assoc far.answers (line.answer ∷ []) later)) (far.more (line.asked ∷ left) (line.answer ∷ later) (g.answers, h)));
-        is_told = ap (λ (t : List ℕ). t ++ more) far.is_told ∙ ap (λ (t : List ℕ). all_told origins far.answers ++ t) (line.is_told ∙ sym (append-nil (answer_told origins line.answer)))
-            ∙ sym (flat_map-append (answer_told origins) far.answers (line.answer ∷ []));
+        first = λ none. absurd (omega (arith, none));
+        writes = λ left later.
+            let next = after far.at line.asked line.answer in
+            let rest = all_written form origins next left later in
+            ap (λ (ls : List Line). all_written form origins (begun_with prelude) ls ((far.answers ++ line.answer ∷ []) ++ later))
+            (append_assoc far.lines (line.asked ∷ []) left)
+            ∙ ap (λ (xs : List LineAnswer). all_written form origins (begun_with prelude) (far.lines ++ line.asked ∷ left) xs)
+            (append_assoc far.answers (line.answer ∷ []) later)
+            ∙ far.writes (line.asked ∷ left) (line.answer ∷ later)
+            ∙ ap (λ (t : List ℕ). told ++ (t ++ rest)) (sym (line.is_told ∙ ap (λ (t : List ℕ). written form origins t line.answer) g.remembers.text))
+            ∙ sym (append_assoc told more rest);
         counted = omega (arith, far.counted, length-append far.lines (line.asked ∷ []));
       }
 
   -- the lines so far are a script by themselves
   far_replayed : (s : State G) (kept : Sources) (had now : Option (List ℕ)) (n : ℕ) (origins : Bool) (told : List ℕ) (far : Far s kept had now n origins told)
-      → IsReplayed its_layers depth prelude far.script n told
+      → IsReplayed its_layers depth prelude form far.script n told
   far_replayed s kept had now n origins told far = record {
     origins = origins;
     rest = far.rest;
@@ -257,7 +283,9 @@ module _ {G : Type 0} (answer_of : G → Grammar) (grammar : G) (edition : Editi
       far.answers,
       subst (λ (ls : List Line). AreLineAnswers its_layers depth (begun_with prelude) ls far.answers) (append-nil far.lines)
           (subst (λ (xs : List LineAnswer). AreLineAnswers its_layers depth (begun_with prelude) (far.lines ++ []) xs) (append-nil far.answers) (far.more [] [] tt)),
-      far.is_told,
+      sym (append-nil told) ∙ sym (far.writes [] [])
+          ∙ ap (λ (ls : List Line). all_written form origins (begun_with prelude) ls (far.answers ++ [])) (append-nil far.lines)
+          ∙ ap (λ (xs : List LineAnswer). all_written form origins (begun_with prelude) far.lines xs) (append-nil far.answers),
     );
     counted = far.counted;
   }
@@ -266,7 +294,7 @@ module _ {G : Type 0} (answer_of : G → Grammar) (grammar : G) (edition : Editi
   pub far_ends : (s : State G) (kept : Sources) (had mid left old new : Option (List ℕ)) (n : ℕ) (origins : Bool) (told next : List ℕ) (result : Answered)
       (far : Far s kept had mid n origins told)
       → Consumes mid left next → IsWritten result.«end» (Appends old new) told → HasEnd result.«end» had far.script next → HasCount result.«end» result.lines n
-      → Answers its_layers depth prelude had left (Appends old new) result
+      → Answers its_layers depth prelude form had left (Appends old new) result
   far_ends s kept had mid left old new n origins told next result far read written ends count = record {
     script = far.script;
     next = next;
@@ -282,7 +310,7 @@ module _ {G : Type 0} (answer_of : G → Grammar) (grammar : G) (edition : Editi
   -- the next line was not read
   pub not_read : (s : State G) (kept : Sources) (had mid left old new : Option (List ℕ)) (n : ℕ) (origins : Bool) (told bytes : List ℕ) (why : End) → Far s kept had mid n origins told
       → Appends old new told → Consumes mid left bytes → ReadsLine mid bytes (Err why)
-      → Answers its_layers depth prelude had left (Appends old new) (record { lines = n; «end» = why })
+      → Answers its_layers depth prelude form had left (Appends old new) (record { lines = n; «end» = why })
   not_read s kept had mid left old new n origins told bytes Whole far written read h =
       far_ends s kept had mid left old new n origins told bytes _ far read written (h.0, all_read had mid far.script far.read h.1) refl
   not_read s kept had mid left old new n origins told bytes ReadFailed far written read h = far_ends s kept had mid left old new n origins told bytes _ far read written tt tt
@@ -294,8 +322,8 @@ module _ {G : Type 0} (answer_of : G → Grammar) (grammar : G) (edition : Editi
   -- the next line was not answered
   pub not_answered : (s last : State G) (kept have : Sources) (had mid left old now new : Option (List ℕ)) (n : ℕ) (origins : Bool) (told bytes : List ℕ) (why : End)
       → Far s kept had mid n origins told
-      → Appends old now told → Consumes mid left bytes → (n ≡ 0 → bytes ≢ asking) → AnswersLine (layers_of answer_of s) s last kept have bytes origins (Appends now new) (Err why)
-      → Answers its_layers depth prelude had left (Appends old new) (record { lines = n + 1; «end» = why })
+      → Appends old now told → Consumes mid left bytes → (n ≡ 0 → bytes ≢ asking) → AnswersLine (layers_of answer_of s) s last kept have bytes form origins (Appends now new) (Err why)
+      → Answers its_layers depth prelude form had left (Appends old new) (record { lines = n + 1; «end» = why })
   not_answered s last kept have had mid left old now new n origins told bytes (Wrong wrong) far written read other h =
       far_ends s kept had mid left old new n origins told bytes _ far read (subst (Appends old new) (append-nil told) (appends_more old now new told [] written h.1)) h.0 refl
   not_answered s last kept have had mid left old now new n origins told bytes Memory far written read other h =
@@ -309,7 +337,7 @@ module _ {G : Type 0} (answer_of : G → Grammar) (grammar : G) (edition : Editi
   not_answered s last kept have had mid left old now new n origins told bytes TooLong far written read other h = absurd h
 
   -- without a session nothing is read
-  pub nothing_read : (had old : Option (List ℕ)) → Answers its_layers depth prelude had had (Appends old old) (record { lines = 0; «end» = Memory })
+  pub nothing_read : (had old : Option (List ℕ)) → Answers its_layers depth prelude form had had (Appends old old) (record { lines = 0; «end» = Memory })
   nothing_read had old = record {
     script = [];
     next = [];

@@ -12,9 +12,10 @@ use Rattle.replay_script.specs.Picks.{Picked, all_picked, prelude_of, with_sourc
 use Rattle.replay_script.specs.Progress.{IsPreludeAnswer, IsSourceAnswer, source_read}
 use Rattle.replay_script.specs.Scripts.{HasLine, IsSourceNumber, IsWrongLine, Says}
 use Rattle.replay_script.specs.SourceTables.{source_in}
-use Rattle.replay_script.specs.Told.{answer_told}
+use Rattle.replay_script.specs.Written.{written}
 use Rattle.replay_script.specs.declared.answer.LineAnswer.{LineAnswer}
 use Rattle.replay_script.specs.declared.answer.LineAnswer.TheVariants as told
+use Rattle.replay_script.specs.declared.form.Form.{Form}
 use Rattle.replay_script.specs.declared.line.Line.{Line}
 use Rattle.replay_script.specs.declared.line.Line.TheVariants as asked
 use Rattle.replay_script.specs.declared.line.Pick.{Pick}
@@ -86,6 +87,11 @@ abbrev pub IsAnswerable : Line → Type 0
 IsAnswerable (asked.Source n home text) = IsSourceNumber n × (length (string_bytes text) < 2 ^ 32)
 IsAnswerable _ = ⊤
 
+-- a text that cannot be read as a source is short enough
+abbrev pub IsShort : LineAnswer → Type 0
+IsShort (told.Unread number text fault) = length (string_bytes text) < 2 ^ 32
+IsShort _ = ⊤
+
 -- the answer to a line, and the session and the sources after it
 abbrev pub LineTurn : {G : Type 0} → Layers → State G → State G → Sources → Sources → Line
     → LineAnswer → Type 0
@@ -99,24 +105,24 @@ LineTurn layers old new had have (asked.Prelude picks) answer =
 
 -- a line is answered
 pub record Answering {G : Type 0} (layers : Layers) (old new : State G) (had have : Sources)
-    (bytes : List ℕ) (origins : Bool) (told : List ℕ) : Type 0 where
+    (bytes : List ℕ) (form : Form) (origins : Bool) (told : List ℕ) : Type 0 where
   pub line : List ℕ
   pub is_line : HasLine bytes line []
   pub asked : Line
   pub says : Says line asked
   pub answer : LineAnswer
   pub turn : LineTurn layers old new had have asked answer
-  pub is_told : told ≡ answer_told origins answer
+  pub is_told : told ≡ written form origins new.text answer
 
 -- a line was answered and its answer written, or why not
 abbrev pub AnswersLine : {G : Type 0} → Layers → State G → State G → Sources → Sources → List ℕ
-    → Bool → (List ℕ → Type 0) → Result ⊤ End → Type 0
-AnswersLine layers old new had have bytes origins writes (Ok _) =
-    (told : List ℕ) × Answering layers old new had have bytes origins told × writes told
-AnswersLine layers old new had have bytes origins writes (Err WriteFailed) =
-    (told : List ℕ) × Answering layers old new had have bytes origins told
+    → Form → Bool → (List ℕ → Type 0) → Result ⊤ End → Type 0
+AnswersLine layers old new had have bytes form origins writes (Ok _) =
+    (told : List ℕ) × Answering layers old new had have bytes form origins told × writes told
+AnswersLine layers old new had have bytes form origins writes (Err WriteFailed) =
+    (told : List ℕ) × Answering layers old new had have bytes form origins told
     × ((k : ℕ) × writes (take k told))
-AnswersLine layers old new had have bytes origins writes (Err (Wrong wrong)) =
+AnswersLine layers old new had have bytes form origins writes (Err (Wrong wrong)) =
     IsWrongLine bytes wrong × writes []
-AnswersLine layers old new had have bytes origins writes (Err NoMemory) = writes []
-AnswersLine layers old new had have bytes origins writes (Err _) = ⊥
+AnswersLine layers old new had have bytes form origins writes (Err NoMemory) = writes []
+AnswersLine layers old new had have bytes form origins writes (Err _) = ⊥

@@ -100,7 +100,8 @@ IsPreludeTold None count = ⊥
 abbrev pub IsSourceAnswer : ℕ → Option Home → List ℕ → LineAnswer → Type 0
 IsSourceAnswer n home text (told.Source m definitions) =
     IsSourceTold (source_read n home text) m definitions
-IsSourceAnswer n home text (told.Unread fault) = source_read n home text ≡ Err fault
+IsSourceAnswer n home text (told.Unread m source fault) =
+    (m ≡ n) × (string_bytes source ≡ text) × (source_read n home text ≡ Err fault)
 IsSourceAnswer n home text (told.Refused Memory) = ⊤
 IsSourceAnswer n home text (told.Refused Tokens) = text_tokens.HasTooMany (text_steps text)
 IsSourceAnswer n home text _ = ⊥

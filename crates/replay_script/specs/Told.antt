@@ -107,11 +107,7 @@ abbrev pub answer_told : Bool → LineAnswer → List ℕ
 answer_told origins (told.Command answer) = command_told origins answer
 answer_told origins (told.Source number definitions) =
     codes "source " ++ (decimal number ++ (codes " " ++ (decimal definitions ++ (10 ∷ []))))
-answer_told origins (told.Unread fault) = unread_told fault
+answer_told origins (told.Unread number text fault) = unread_told fault
 answer_told origins (told.Prelude count) = codes "prelude " ++ (decimal count ++ (10 ∷ []))
 answer_told origins told.BadPrelude = codes "bad prelude\n"
 answer_told origins (told.Refused refusal) = refused_told refusal
-
--- one answer after another
-abbrev pub all_told : Bool → List LineAnswer → List ℕ
-all_told origins answers = flat_map (answer_told origins) answers

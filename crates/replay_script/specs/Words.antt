@@ -2,7 +2,7 @@
 use Rattle.std.specs.Prelude.{◌≡◌, ◌≢◌, ◌<◌, ◌^◌, ℕ, Bool, true, false, List, [], ◌∷◌, ◌++◌, Option, Some, None, option_map, option_and_then, get_or, length, nat_eq, if◌then◌else◌}
 use Rattle.std.specs.Str.Parse.{IsNumeral, digits_value, without_leading_plus}
 use Rattle.expander_sources.specs.Homes.{Home, home_named}
-use Rattle.replay_script.specs.Editions.{edition_name}
+use Rattle.crate_picks.specs.Editions.{edition_name}
 
 -- none of these bytes is this one
 abbrev pub Lacks : ℕ → List ℕ → Type 0

@@ -1,5 +1,5 @@
 //! Answers a line of a script.
-ghost use Rattle.std.specs.Prelude.{◌≡◌, ◌<◌, ◌≤◌, ◌^◌, length};
+ghost use Rattle.std.specs.Prelude.{◌≡◌, ◌<◌, ◌≤◌, ◌^◌, length, string_bytes};
 ghost use Rattle.expander_session.specs.State.{layers_of};
 ghost use Rattle.replay_script.specs.LineTurns.{IsAnswerable, Keeps, LineTurn, Picks, Reads};
 
@@ -16,9 +16,17 @@ pub enum LineAnswer {
     /// To a command.
     Command(Answer),
     /// The text is read as the source of this number, with so many definitions.
-    Source { number: u32, definitions: usize },
-    /// The text that was to be a source cannot be read as trees. No source changes.
-    Unread(ReadFault),
+    Source {
+        number: u32,
+        definitions: usize,
+    },
+    /// This text, which was to be the source of this number, cannot be read as trees. No source
+    /// changes.
+    Unread {
+        number: u32,
+        text: String,
+        fault: ReadFault,
+    },
     /// The text is expanded after this many definitions that are seen by their names.
     Prelude(usize),
     /// There is no such source, or no such index. Nothing changes.
@@ -47,15 +55,19 @@ fn source_answer(
     sources: &mut Sources,
     number: u32,
     home: Option<Home>,
-    text: &str,
+    text: String,
 ) -> LineAnswer
     requires number { 1 ≤ number }
-    requires fits { length text.now < 2 ^ 32 }
-    ensures { Reads sources.old sources.new number home text.now result }
+    requires fits { length (string_bytes text) < 2 ^ 32 }
+    ensures { Reads sources.old sources.new number home (string_bytes text) result }
 {
-    match Source::new(alloc, text, number, home) {
+    match Source::new(alloc, text.as_str(), number, home) {
         Ok(SourceRead::Read(source)) => put_answer(sources, source),
-        Ok(SourceRead::Unread(fault)) => LineAnswer::Unread(fault),
+        Ok(SourceRead::Unread(fault)) => LineAnswer::Unread {
+            number,
+            text,
+            fault,
+        },
         Err(fault) => LineAnswer::Refused(Refusal::from(fault)),
     }
 }
@@ -93,9 +105,7 @@ pub(crate) fn answer_of<G: FragmentGrammar + Drop>(
 {
     match line {
         Line::Command(command) => LineAnswer::Command(answer_to(session, &command)),
-        Line::Source { number, home, text } => {
-            source_answer(alloc, sources, number, home, text.as_str())
-        }
+        Line::Source { number, home, text } => { source_answer(alloc, sources, number, home, text) }
         Line::Prelude(picks) => prelude_answer(alloc, session, sources, picks.as_slice()),
     }
 }

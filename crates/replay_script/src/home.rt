@@ -1,27 +1,12 @@
 //! Words that name a crate of another text: its root and its edition.
-ghost use Rattle.std.specs.Prelude.{◌≡◌, ◌≢◌, ◌∷◌, [], IfOk, MatchOption, Option};
-ghost use Rattle.tt_data.specs.declared.edition.Edition.{Edition};
+ghost use Rattle.std.specs.Prelude.{◌≢◌, ◌∷◌, [], IfOk, MatchOption, Option};
 ghost use Rattle.expander_sources.specs.Homes.{Home as HomeOf};
-ghost use Rattle.replay_script.specs.Editions.{edition_name};
 ghost use Rattle.replay_script.specs.Words.{IsHome};
 
 use crate::words::cut_at;
-use expander::{Edition, Home};
+use crate_picks::edition_of;
+use expander::Home;
 use std::alloc::{AllocError, Global};
-
-/// The edition of a name, if it is one's.
-pub fn edition_of(name: &str) -> Option<Edition>
-    ensures { MatchOption result ((e : Edition) → name.now ≢ edition_name e)
-        (λ e. name.now ≡ edition_name e) }
-{
-    match name {
-        "2015" => Some(Edition::Edition2015),
-        "2018" => Some(Edition::Edition2018),
-        "2021" => Some(Edition::Edition2021),
-        "2024" => Some(Edition::Edition2024),
-        _ => None,
-    }
-}
 
 // The home that a word `ROOT@EDITION` names. `None` if it names no home.
 fn crate_home(alloc: Global, word: &str) -> Result<Option<Option<Home>>, AllocError>

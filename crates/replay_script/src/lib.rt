@@ -1,4 +1,4 @@
-//! Scripts: lines that edit and expand a text, and the answers to them as text.
+//! Scripts: lines that edit and expand a text, and the answers to them as text or as JSON.
 //!
 //! A script is read line by line. A line is UTF-8, without a carriage return, and ends with a line
 //! feed. The text is empty at first. A line is one of these:
@@ -51,13 +51,19 @@
 //! [`ReadFaultKind`](expander::ReadFaultKind), START and END are byte offsets in the text that
 //! was expanded, or in the source N.
 //!
+//! As JSON each of these answers is one line, an object with the member `answer`: `edited`,
+//! `bad_edit`, `expansion`, `unread`, `source`, `prelude`, `bad_prelude` or `refused`. The line
+//! `origins` changes nothing then.
+//!
 //! A script may begin with a prelude. Up to its first `prelude COUNT` an origin's N is then the
 //! number of that prelude's source. No word can pick that source: words pick from `source` lines
 //! alone.
 #![tactic(auto)]
 
 mod answer;
+mod form;
 mod home;
+mod json;
 pub mod laws;
 mod line;
 mod picks;
@@ -67,8 +73,7 @@ mod tell;
 mod words;
 
 pub use answer::LineAnswer;
-pub use home::edition_of;
+pub use form::Form;
 pub use line::{Line, Pick, Wrong};
-pub use picks::push_source;
 pub use script::{Answered, End, answer_script};
 pub use tell::{kind_name, read_kind_name, refusal_name, wrong_words};

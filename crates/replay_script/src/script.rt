@@ -1,20 +1,20 @@
 //! Answers a script line by line, and keeps nothing of a line that was answered.
-ghost use Rattle.std.specs.Prelude.{◌≡◌, ◌↔◌, [], IfOk, IsTrue, None, OnOk, false, string_bytes};
+ghost use Rattle.std.specs.Prelude.{◌≡◌, ◌↔◌, ◌<◌, ◌^◌, [], IfOk, IsTrue, None, OnOk, false};
+ghost use Rattle.std.specs.Prelude.{length, string_bytes};
 ghost use Rattle.std.specs.Io.KnownBytes.{Appends, Consumes};
 ghost use Rattle.expander_session.specs.State.{layers_of as session_layers};
-ghost use Rattle.expander_run.specs.Runs.{layers_of};
+ghost use Rattle.expander.specs.Runs.{layers_of};
 ghost use Rattle.replay_script.specs.LineTurns.{AnswersLine, IsAnswerable, IsNew, IsNext, LineTurn};
 ghost use Rattle.replay_script.specs.LineTurns.{ReadsLine};
 ghost use Rattle.replay_script.specs.Replays.{Answers, asking};
-ghost use Rattle.replay_script.specs.Told.{answer_told};
+ghost use Rattle.replay_script.specs.Written.{written};
 ghost use Rattle.replay_script.specs.declared.answer.LineAnswer.{LineAnswer as LineAnswerOf};
 
 use crate::answer::answer_of;
+use crate::form::{Form, Style, written};
 use crate::line::{Line, Wrong, read_line};
 use crate::sources::Sources;
-use crate::tell::push_answer;
-use expander::{Options, Prelude, Session, Watched};
-use expander_run::program::put;
+use expander::{Options, Prelude, Session, Watched, put};
 use fragment_grammar::FragmentGrammar;
 use std::alloc::{AllocError, Global};
 use std::io;
@@ -70,24 +70,23 @@ fn next_line<R: BufRead>(reader: &mut R, bytes: &mut Vec<u8>) -> Result<(), End>
     }
 }
 
-// The answer to a line, as text.
+// The answer to a line, as it is written.
 fn told_of<G: FragmentGrammar + Drop>(
     alloc: Global,
     session: &mut Session<G>,
     sources: &mut Sources,
     line: Line,
-    origins: bool,
+    style: Style,
 ) -> Result<String, AllocError>
-    requires { IsAnswerable line }
+    requires line { IsAnswerable line }
+    requires short { length session.old.text < 2 ^ 32 }
     ensures { IfOk result (λ told. (answer : LineAnswerOf)
         × LineTurn (session_layers G.answer session.old) session.old session.new
         sources.old sources.new line answer
-        × (string_bytes told ≡ answer_told origins answer)) }
+        × (string_bytes told ≡ written style.form style.origins session.new.text answer)) }
 {
     let answer = answer_of(alloc, session, sources, line);
-    let mut told = String::new(alloc);
-    push_answer(&mut told, &answer, origins)?;
-    Ok(told)
+    written(alloc, style, session.text(), &answer)
 }
 
 // Answers a line.
@@ -97,12 +96,13 @@ fn answer_line<G: FragmentGrammar + Drop, W: Write>(
     sources: &mut Sources,
     writer: &mut Watched<W>,
     bytes: &[u8],
-    origins: bool,
+    style: Style,
 ) -> Result<(), End>
     requires next { IsNext bytes.now }
+    requires short { length session.old.text < 2 ^ 32 }
     requires fresh { writer.old.failed ≡ false }
     ensures line { AnswersLine (session_layers G.answer session.old) session.old session.new
-        sources.old sources.new bytes.now origins
+        sources.old sources.new bytes.now style.form style.origins
         (Appends (W.contents writer.old.inner) (W.contents writer.new.inner)) result }
     ensures fresh { OnOk result (writer.new.failed ≡ false) }
 {
@@ -111,7 +111,7 @@ fn answer_line<G: FragmentGrammar + Drop, W: Write>(
         Ok(Err(wrong)) => return Err(End::Wrong(wrong)),
         Err(AllocError) => return Err(End::Memory),
     };
-    match told_of(alloc, session, sources, line, origins) {
+    match told_of(alloc, session, sources, line, style) {
         Ok(told) => {
             if put(writer, told.as_bytes()) {
                 Ok(())
@@ -129,10 +129,11 @@ fn answer_lines<G: FragmentGrammar + Drop, R: BufRead, W: Write>(
     mut session: Session<G>,
     reader: &mut R,
     writer: &mut Watched<W>,
+    form: Form,
 ) -> Answered
     requires new { IsNew session }
     requires fresh { writer.old.failed ≡ false }
-    ensures { Answers (session_layers G.answer session) session.depth session.prelude
+    ensures { Answers (session_layers G.answer session) session.depth session.prelude form
         (R.remaining reader.old) (R.remaining reader.new)
         (Appends (W.contents writer.old.inner) (W.contents writer.new.inner)) result }
 {
@@ -153,7 +154,7 @@ fn answer_lines<G: FragmentGrammar + Drop, R: BufRead, W: Write>(
             &mut sources,
             writer,
             line,
-            origins,
+            Style { form, origins },
         ) {
             return Answered {
                 lines: lines + 1,
@@ -199,22 +200,24 @@ fn opened<G: FragmentGrammar + Drop>(
 
 /// Answers the lines of a script, up to its end or its first wrong line, by a grammar, an edition,
 /// a dialect and a number of levels. Up to its first `prelude` line the text is expanded after
-/// this prelude. The answer to a line is written and flushed before the next line is read. The
-/// forms of lines and answers are at the head of this crate. The writer has not failed before.
+/// this prelude. The answer to a line is written in this form and flushed before the next line is
+/// read. The forms of lines and answers are at the head of this crate. The writer has not failed
+/// before.
 pub fn answer_script<G: FragmentGrammar + Drop, R: BufRead, W: Write>(
     alloc: Global,
     reader: &mut R,
     writer: &mut Watched<W>,
     options: Options<G>,
     prelude: Prelude,
+    form: Form,
 ) -> Answered
     requires { writer.old.failed ≡ false }
-    ensures { Answers (layers_of G.answer options) options.depth prelude
+    ensures { Answers (layers_of G.answer options) options.depth prelude form
         (R.remaining reader.old) (R.remaining reader.new)
         (Appends (W.contents writer.old.inner) (W.contents writer.new.inner)) result }
 {
     match opened(alloc, options, prelude) {
-        Ok(session) => answer_lines(alloc, session, reader, writer),
+        Ok(session) => answer_lines(alloc, session, reader, writer, form),
         Err(AllocError) => Answered {
             lines: 0,
             end: End::Memory,

@@ -9,7 +9,8 @@ ghost use Rattle.replay_script.specs.SourceTables.{source_in};
 ghost use Rattle.tt_data.specs.Forest.{Forest};
 
 use crate::line::Pick;
-use crate::picks::{push_at, push_behind, push_open};
+use crate::picks::push_at;
+use crate_picks::{push_behind, push_open};
 use expander::{Prelude, Source};
 use std::alloc::{AllocError, Global};
 use std::collections::HashMap;

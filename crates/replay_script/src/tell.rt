@@ -193,7 +193,7 @@ pub(crate) fn push_answer(
             number,
             definitions,
         } => writeln!(told, "source {number} {definitions}"),
-        LineAnswer::Unread(fault) => push_unread(told, *fault),
+        LineAnswer::Unread { fault, .. } => push_unread(told, *fault),
         LineAnswer::Prelude(count) => writeln!(told, "prelude {count}"),
         LineAnswer::BadPrelude => told.push_str("bad prelude\n"),
         LineAnswer::Refused(refusal) => push_refused(told, *refusal),

@@ -14,7 +14,7 @@ no_float_in : (ns : List ℕ) → items_have_float (items_of (map count ns)) ≡
 no_float_in [] = refl
 no_float_in (n ∷ ns) = no_float_in ns
 
-no_float_told : (text : List ℕ) (fs : List Fault)
+pub no_float_told : (text : List ℕ) (fs : List Fault)
     → items_have_float (items_of (map (fault text) fs)) ≡ false
 no_float_told text [] = refl
 no_float_told text (f ∷ fs) = no_float_told text fs

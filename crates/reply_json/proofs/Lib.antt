@@ -1,3 +1,4 @@
 pub mod ListLemmas
 pub mod FloatLemmas
+pub mod ExplainedLemmas
 pub mod Rows

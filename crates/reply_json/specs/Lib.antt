@@ -1,2 +1,3 @@
 -- what public contracts rest on
 pub mod Lines
+pub mod Explanations

@@ -86,3 +86,33 @@ abbrev pub refused : Refusal → Data
 refused why =
     object (answer (codes "refused")
     (member (codes "message") (string (refusal_words why)) version))
+
+-- an expansion whose printed text is too long for places
+abbrev pub too_long : Data
+too_long =
+    object (answer (codes "refused")
+    (member (codes "message") (string (codes "the printed text is too long")) version))
+
+-- ---- lines of scripts
+
+-- an answer that says no more than its name
+abbrev pub bare : List ℕ → Data
+bare name = object (answer name version)
+
+-- a text is read as a source of this number, with so many definitions
+abbrev pub source_read : (number definitions : ℕ) → Data
+source_read number definitions =
+    object (answer (codes "source") (member (codes "definitions") (count definitions)
+    (member (codes "source") (count number) version)))
+
+-- why a text cannot be read as a source of this number
+abbrev pub source_unread : ℕ → List ℕ → ReadFault → Data
+source_unread number text f =
+    object (answer (codes "unread")
+    (told (place text f.range) (read_kind_name f.kind) (read_fault_words f.kind)
+    (member (codes "source") (count number) version)))
+
+-- a text is expanded after so many definitions that are seen by their names
+abbrev pub prelude : ℕ → Data
+prelude definitions =
+    object (answer (codes "prelude") (member (codes "definitions") (count definitions) version))

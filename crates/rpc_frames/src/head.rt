@@ -1,6 +1,7 @@
 //! The head of a frame: where it ends, and the length that it says.
 ghost use Rattle.std.specs.Prelude.{◌≡◌, ◌≤◌, IfSome, IsTrue, drop, length};
-ghost use Rattle.rpc_frames.specs.Frames.{field_name, has_name, head_len, length_in, number_from, number_in};
+ghost use Rattle.rpc_frames.specs.Frames.{field_name, has_name, head_len, length_in, number_from};
+ghost use Rattle.rpc_frames.specs.Frames.{number_in};
 
 // The most bytes that a body may have.
 const MAX_BODY: usize = 268_435_456;

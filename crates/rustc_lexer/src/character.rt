@@ -1,6 +1,7 @@
 //! The classes of characters in Rust's grammar.
 ghost use Rattle.std.specs.Prelude.{◌≡◌};
-ghost use Rattle.rustc_lexer.specs.Character.{is_whitespace, is_horizontal_whitespace, is_id_start, is_id_continue};
+ghost use Rattle.rustc_lexer.specs.Character.{is_whitespace, is_horizontal_whitespace, is_id_start};
+ghost use Rattle.rustc_lexer.specs.Character.{is_id_continue};
 
 /// The version of Unicode whose tables decide what an identifier may contain.
 pub const UNICODE_VERSION: (u8, u8, u8) = (18, 0, 0);

@@ -1,7 +1,8 @@
 //! Lexes comments.
 ghost use Rattle.std.specs.Prelude.{◌≡◌, ◌&&◌, true, codes, chars};
 ghost use Rattle.rustc_lexer.specs.Character.{begins, is};
-ghost use Rattle.rustc_lexer.specs.Comments.{line_style, line_comment, block_style, block_body, block_comment};
+ghost use Rattle.rustc_lexer.specs.Comments.{line_style, line_comment, block_style, block_body};
+ghost use Rattle.rustc_lexer.specs.Comments.{block_comment};
 ghost use Rattle.rustc_lexer.specs.Scanned.{IsRead};
 
 use crate::scan::{behind, first, from_line_feed, second, split_first, third};

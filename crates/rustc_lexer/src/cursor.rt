@@ -1,7 +1,8 @@
 //! A cursor over the tokens of a text, which consumes them one by one.
 ghost use Rattle.std.specs.Prelude.{◌≡◌, ◌<◌, ◌+◌, ◌^◌, length, chars};
 ghost use Rattle.rustc_lexer.specs.Character.{char_at};
-ghost use Rattle.rustc_lexer.specs.Cursors.{Unread, next_token, past_token, next_guarded, past_guarded, later_suffix, suffix_of};
+ghost use Rattle.rustc_lexer.specs.Cursors.{Unread, next_token, past_token, next_guarded};
+ghost use Rattle.rustc_lexer.specs.Cursors.{past_guarded, later_suffix, suffix_of};
 ghost use Rattle.rustc_lexer.specs.FirstCharacter.{ArePlain};
 
 use crate::first_token::first_lexeme;

@@ -1,7 +1,8 @@
 //! Lexes the first token of a text: its kind, and the text after it.
 ghost use Rattle.std.specs.Prelude.{◌≡◌, ◌<◌, ◌^◌, length, chars, IsUtf8};
 ghost use Rattle.rustc_lexer.specs.Character.{char_at};
-ghost use Rattle.rustc_lexer.specs.Lexeme.{lexeme, string, one_char_kind, guarded, numeral, white_space};
+ghost use Rattle.rustc_lexer.specs.Lexeme.{lexeme, string, one_char_kind, guarded, numeral};
+ghost use Rattle.rustc_lexer.specs.Lexeme.{white_space};
 ghost use Rattle.rustc_lexer.specs.Literals.{hashes};
 ghost use Rattle.rustc_lexer.specs.Scanned.{IsRead};
 ghost use Rattle.rustc_lexer.specs.FirstCharacter.{ArePlain, hash, sign, uncommented};

@@ -1,11 +1,15 @@
 //! Lexes identifiers, keywords, and the literals and unknown prefixes that begin with a letter.
-ghost use Rattle.std.specs.Prelude.{◌≡◌, ◌<◌, ◌^◌, ◌==◌, ◌&&◌, ◌||◌, true, codes, slice_index, length, chars};
+ghost use Rattle.std.specs.Prelude.{◌≡◌, ◌<◌, ◌^◌, ◌==◌, ◌&&◌, ◌||◌, true, codes, slice_index};
+ghost use Rattle.std.specs.Prelude.{length, chars};
 ghost use Rattle.rustc_lexer.specs.Ascii.{are_ascii};
 ghost use Rattle.rustc_lexer.specs.Character.{char_at, begins, is_id_start, is_ident};
-ghost use Rattle.rustc_lexer.specs.Lexeme.{plain_word, marked_word, word, quoted, string, raw_string};
+ghost use Rattle.rustc_lexer.specs.Lexeme.{plain_word, marked_word, word, quoted, string};
+ghost use Rattle.rustc_lexer.specs.Lexeme.{raw_string};
 ghost use Rattle.rustc_lexer.specs.Scanned.{IsRead};
 ghost use Rattle.rustc_lexer.specs.FirstCharacter.{b_word, c_word, k_word, r_word, word_kind};
-ghost use Rattle.rustc_lexer.specs.declared.token.LiteralKind.TheVariants.{Byte, ByteStr, CStr, RawStr, RawByteStr, RawCStr};
+ghost use Rattle.rustc_lexer.specs.declared.token.LiteralKind.TheVariants.{Byte, ByteStr, CStr};
+ghost use Rattle.rustc_lexer.specs.declared.token.LiteralKind.TheVariants.{RawStr, RawByteStr};
+ghost use Rattle.rustc_lexer.specs.declared.token.LiteralKind.TheVariants.{RawCStr};
 
 use crate::character::is_id_start;
 use crate::literal::{literal, quoted_body, raw_form, skip_identifier, string_body};

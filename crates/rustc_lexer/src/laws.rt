@@ -11,7 +11,8 @@
 //! A text that consists of whole tokens with spaces and line feeds between them has exactly these
 //! tokens: [`whole_token`], [`blank_token`], [`one_character`] and [`quoted_name`] give them one
 //! by one, and [`token_shapes`] says what each begins and ends with.
-ghost use Rattle.std.specs.Prelude.{◌≡◌, ◌≤◌, ◌+◌, ◌++◌, ◌↔◌, ℕ, List, [], ◌∷◌, Some, true, false, length, chars, IsUtf8, All, sum_by, take, drop, IsCharBoundary};
+ghost use Rattle.std.specs.Prelude.{◌≡◌, ◌≤◌, ◌+◌, ◌++◌, ◌↔◌, ℕ, List, [], ◌∷◌, Some, true, false};
+ghost use Rattle.std.specs.Prelude.{length, chars, IsUtf8, All, sum_by, take, drop, IsCharBoundary};
 ghost use Rattle.std.specs.List.{list_all, slice_range};
 ghost use Rattle.std.specs.Ordering.{nat_cmp};
 ghost use Rattle.rustc_lexer.specs.Character.{is_digit, is_ident, utf8_len};
@@ -19,8 +20,10 @@ ghost use Rattle.rustc_lexer.specs.Cursors.{suffix_of};
 ghost use Rattle.rustc_lexer.specs.Lexeme.{lexeme, one_char_kind};
 ghost use Rattle.rustc_lexer.specs.Lexing.{look_ahead, place, reach, run_on, token_of, tokens_of};
 ghost use Rattle.rustc_lexer.specs.Literals.{stands_for_itself, with_escapes};
-ghost use Rattle.rustc_lexer.specs.Orders.{base_number, error_ranks, guarded_ranks, in_order, kind_ranks};
-ghost use Rattle.rustc_lexer.specs.Seams.{begins_longer, begins_white, ends_here, is_blank, is_sign, is_whole, stands_alone};
+ghost use Rattle.rustc_lexer.specs.Orders.{base_number, error_ranks, guarded_ranks, in_order};
+ghost use Rattle.rustc_lexer.specs.Orders.{kind_ranks};
+ghost use Rattle.rustc_lexer.specs.Seams.{begins_longer, begins_white, ends_here, is_blank};
+ghost use Rattle.rustc_lexer.specs.Seams.{is_sign, is_whole, stands_alone};
 ghost use Rattle.rustc_lexer.specs.Shapes.{HasByteShape, HasShape, is_ended};
 ghost use Rattle.rustc_lexer.specs.TokensAt.{AreTokensFrom, IsTokenAt};
 ghost use Rattle.rustc_lexer.specs.declared.character.TheConstants.{UNICODE_VERSION};
@@ -33,7 +36,8 @@ ghost use Rattle.rustc_lexer.specs.declared.token.LiteralKind.{LiteralKind};
 ghost use Rattle.rustc_lexer.specs.declared.token.LiteralKind.TheVariants.{Int, Str};
 ghost use Rattle.rustc_lexer.specs.declared.token.Token.{Token};
 ghost use Rattle.rustc_lexer.specs.declared.token.TokenKind.{TokenKind};
-ghost use Rattle.rustc_lexer.specs.declared.token.TokenKind.TheVariants.{Eof, Ident, Lifetime, Literal, Whitespace};
+ghost use Rattle.rustc_lexer.specs.declared.token.TokenKind.TheVariants.{Eof, Ident, Lifetime};
+ghost use Rattle.rustc_lexer.specs.declared.token.TokenKind.TheVariants.{Literal, Whitespace};
 ghost use Rattle.ucd_table.specs.declared.version.TheConstants.{UNICODE_VERSION as tables_version};
 
 use crate::raw_str::RawStrError;
@@ -51,7 +55,8 @@ pub fn next_token()
     ensures here { (text : List ℕ) (at : ℕ) (left : List Token) (t : Token) (ts : List Token) →
         IsUtf8 text → AreTokensFrom text at left → left ≡ t ∷ ts → IsTokenAt text at t }
     ensures others { (text : List ℕ) (at : ℕ) (left : List Token) (t : Token) (ts : List Token) →
-        IsUtf8 text → AreTokensFrom text at left → left ≡ t ∷ ts → AreTokensFrom text (at + t.len) ts }
+        IsUtf8 text → AreTokensFrom text at left → left ≡ t ∷ ts →
+        AreTokensFrom text (at + t.len) ts }
 {}
 
 /// If no token remains, the offset is the end of the text.
@@ -63,12 +68,15 @@ pub fn tokens_end()
 /// Each length is at least 1. The first k lengths sum to the offset of the next token, a character
 /// boundary; all of them sum to the length of the text.
 pub fn token_lengths()
-    ensures positive { (text : List ℕ) → IsUtf8 text → All (λ t. 1 ≤ t.len) (tokens_of (chars text)) }
+    ensures positive { (text : List ℕ) → IsUtf8 text →
+        All (λ t. 1 ≤ t.len) (tokens_of (chars text)) }
     ensures boundaries { (text : List ℕ) (k : ℕ) →
         IsUtf8 text → IsCharBoundary text (sum_by (λ t. t.len) (take k (tokens_of (chars text)))) }
     ensures places { (text : List ℕ) (k : ℕ) → IsUtf8 text →
-        AreTokensFrom text (sum_by (λ t. t.len) (take k (tokens_of (chars text)))) (drop k (tokens_of (chars text))) }
-    ensures whole { (text : List ℕ) → IsUtf8 text → sum_by (λ t. t.len) (tokens_of (chars text)) ≡ length text }
+        AreTokensFrom text (sum_by (λ t. t.len) (take k (tokens_of (chars text))))
+        (drop k (tokens_of (chars text))) }
+    ensures whole { (text : List ℕ) → IsUtf8 text →
+        sum_by (λ t. t.len) (tokens_of (chars text)) ≡ length text }
 {}
 
 /// No token of a text is `Eof`.
@@ -79,8 +87,10 @@ pub fn no_token_is_eof()
 /// The first k lexemes of a text take `place k` characters. The text after these has the other
 /// tokens, and the lengths of the first k tokens sum to the bytes of these characters.
 pub fn rest_of_tokens()
-    ensures rest { (k : ℕ) (cs : List ℕ) → tokens_of (drop (place k cs) cs) ≡ drop k (tokens_of cs) }
-    ensures bytes { (k : ℕ) (cs : List ℕ) → sum_by (λ t. t.len) (take k (tokens_of cs)) ≡ utf8_len (take (place k cs) cs) }
+    ensures rest { (k : ℕ) (cs : List ℕ) →
+        tokens_of (drop (place k cs) cs) ≡ drop k (tokens_of cs) }
+    ensures bytes { (k : ℕ) (cs : List ℕ) →
+        sum_by (λ t. t.len) (take k (tokens_of cs)) ≡ utf8_len (take (place k cs) cs) }
 {}
 
 /// The tokens of a text that is not empty are its first lexeme and the tokens of what follows the
@@ -99,7 +109,8 @@ pub fn first_of_tokens()
 /// do not end in `#`, or no `#` follows.
 pub fn first_tokens()
     ensures tokens { (k : ℕ) (cs ds : List ℕ) →
-        take (reach k cs) cs ≡ take (reach k cs) ds → take k (tokens_of ds) ≡ take k (tokens_of cs) }
+        take (reach k cs) cs ≡ take (reach k cs) ds →
+        take k (tokens_of ds) ≡ take k (tokens_of cs) }
     ensures places { (k : ℕ) (cs ds : List ℕ) →
         take (reach k cs) cs ≡ take (reach k cs) ds → place k ds ≡ place k cs }
     ensures bytes { (k n : ℕ) (text other : List ℕ) → IsUtf8 text →
@@ -116,23 +127,27 @@ pub fn first_tokens()
 
 /// The suffix of a literal begins inside its token or right after it, at a character boundary.
 pub fn suffix_starts()
-    ensures within { (text : List ℕ) (at : ℕ) (t : Token) → IsTokenAt text at t → suffix_of t.kind ≤ t.len }
+    ensures within { (text : List ℕ) (at : ℕ) (t : Token) → IsTokenAt text at t →
+        suffix_of t.kind ≤ t.len }
     ensures boundary { (text : List ℕ) (at : ℕ) (t : Token) → IsUtf8 text → IsTokenAt text at t →
         IsCharBoundary text (at + suffix_of t.kind) }
 {}
 
 /// A text that is one whole token is still that token before a space, a line feed or the end.
 pub fn whole_token()
-    ensures { (cs ds : List ℕ) (t : Token) → tokens_of cs ≡ t ∷ [] → is_whole t.kind ≡ true → ends_here ds ≡ true →
+    ensures { (cs ds : List ℕ) (t : Token) → tokens_of cs ≡ t ∷ [] → is_whole t.kind ≡ true →
+        ends_here ds ≡ true →
         tokens_of (cs ++ ds) ≡ t ∷ tokens_of ds }
 {}
 
 /// The characters of a token that stands alone are that token by themselves, whatever follows them
 /// in the text: all whole tokens but raw lifetimes and unknown prefixes.
 pub fn token_alone()
-    ensures chars { (cs : List ℕ) (t : Token) (ts : List Token) → tokens_of cs ≡ t ∷ ts → stands_alone t.kind ≡ true →
+    ensures chars { (cs : List ℕ) (t : Token) (ts : List Token) → tokens_of cs ≡ t ∷ ts →
+        stands_alone t.kind ≡ true →
         tokens_of (take (lexeme cs).size cs) ≡ t ∷ [] }
-    ensures bytes { (text : List ℕ) (at : ℕ) (t : Token) → IsTokenAt text at t → stands_alone t.kind ≡ true →
+    ensures bytes { (text : List ℕ) (at : ℕ) (t : Token) → IsTokenAt text at t →
+        stands_alone t.kind ≡ true →
         tokens_of (chars (slice_range text at (at + t.len))) ≡ t ∷ [] }
 {}
 
@@ -168,41 +183,57 @@ pub fn name_of_a_lifetime()
 
 /// A text that is an identifier is one token.
 pub fn one_identifier()
-    ensures { (cs : List ℕ) → is_ident cs ≡ true → tokens_of cs ≡ record { kind = Ident; len = utf8_len cs } ∷ [] }
+    ensures { (cs : List ℕ) → is_ident cs ≡ true →
+        tokens_of cs ≡ record { kind = Ident; len = utf8_len cs } ∷ [] }
 {}
 
 /// A text of digits is one whole number in base ten.
 pub fn one_number()
     ensures { (c : ℕ) (cs : List ℕ) → list_all is_digit (c ∷ cs) ≡ true →
-        tokens_of (c ∷ cs) ≡ record { kind = Literal (Int Decimal false) (utf8_len (c ∷ cs)); len = utf8_len (c ∷ cs) } ∷ [] }
+        tokens_of (c ∷ cs) ≡ record {
+          kind = Literal (Int Decimal false) (utf8_len (c ∷ cs));
+          len =
+              utf8_len (c ∷ cs);
+        } ∷ [] }
 {}
 
 /// Characters in quotes, of which none is a quote or a `\`, are one whole string.
 pub fn one_string()
     ensures { (cs : List ℕ) → list_all stands_for_itself cs ≡ true →
-        tokens_of (34 ∷ cs ++ 34 ∷ []) ≡ record { kind = Literal (Str true) (utf8_len (34 ∷ cs ++ 34 ∷ [])); len = utf8_len (34 ∷ cs ++ 34 ∷ []) } ∷ [] }
+        tokens_of (34 ∷ cs ++ 34 ∷ []) ≡ record {
+          kind = Literal (Str true) (utf8_len (34 ∷ cs ++ 34 ∷ []));
+          len = utf8_len
+              (34 ∷ cs ++ 34 ∷ []);
+        } ∷ [] }
 {}
 
 /// Characters in quotes, each `"` and each `\` of them with a `\` before it, are one whole string.
 pub fn one_escaped_string()
     ensures { (cs : List ℕ) →
         tokens_of (34 ∷ with_escapes cs ++ 34 ∷ [])
-        ≡ record { kind = Literal (Str true) (utf8_len (34 ∷ with_escapes cs ++ 34 ∷ [])); len = utf8_len (34 ∷ with_escapes cs ++ 34 ∷ []) } ∷ [] }
+        ≡ record {
+          kind = Literal (Str true) (utf8_len (34 ∷ with_escapes cs ++ 34 ∷ []));
+          len =
+              utf8_len (34 ∷ with_escapes cs ++ 34 ∷ []);
+        } ∷ [] }
 {}
 
 /// A terminated token begins and ends as its kind does. The suffix of a literal follows its
 /// ending; `suffix_start` is the length of all before it.
 pub fn token_shapes()
-    ensures chars { (text : List ℕ) (at : ℕ) (t : Token) → IsTokenAt text at t → is_ended t.kind ≡ true →
+    ensures chars { (text : List ℕ) (at : ℕ) (t : Token) → IsTokenAt text at t →
+        is_ended t.kind ≡ true →
         HasShape t.kind (chars (slice_range text at (at + t.len))) }
-    ensures bytes { (text : List ℕ) (at : ℕ) (t : Token) → IsTokenAt text at t → is_ended t.kind ≡ true →
+    ensures bytes { (text : List ℕ) (at : ℕ) (t : Token) → IsTokenAt text at t →
+        is_ended t.kind ≡ true →
         HasByteShape t.kind (slice_range text at (at + t.len)) }
 {}
 
 /// Two values are equal by `==` exactly where they are the same.
 pub fn equal_tokens()
     ensures kinds { (a b : TokenKind) → (⟦<TokenKind as PartialEq>⟧.eq a b ≡ true) ↔ (a ≡ b) }
-    ensures literals { (a b : LiteralKind) → (⟦<LiteralKind as PartialEq>⟧.eq a b ≡ true) ↔ (a ≡ b) }
+    ensures literals { (a b : LiteralKind) →
+        (⟦<LiteralKind as PartialEq>⟧.eq a b ≡ true) ↔ (a ≡ b) }
     ensures tokens { (a b : Token) → (⟦<Token as PartialEq>⟧.eq a b ≡ true) ↔ (a ≡ b) }
     ensures guarded { (a b : GuardedStr) → (⟦<GuardedStr as PartialEq>⟧.eq a b ≡ true) ↔ (a ≡ b) }
     ensures kept { (a b : Kept) → (⟦<Kept as PartialEq>⟧.eq a b ≡ true) ↔ (a ≡ b) }
@@ -211,18 +242,25 @@ pub fn equal_tokens()
 /// Bases are in the order of their numbers. Kinds of literals, strings between hashes and errors of
 /// raw strings are in the order of their variants, and then of their fields, as they are declared.
 pub fn orders()
-    ensures bases { (a b : Base) → ⟦<Base as Ord>⟧.cmp a b ≡ nat_cmp (base_number a) (base_number b) }
-    ensures literals { (a b : LiteralKind) → ⟦<LiteralKind as Ord>⟧.cmp a b ≡ in_order (kind_ranks a) (kind_ranks b) }
-    ensures guarded { (a b : GuardedStr) → ⟦<GuardedStr as Ord>⟧.cmp a b ≡ in_order (guarded_ranks a) (guarded_ranks b) }
-    ensures errors { (a b : RawStrError) → ⟦<RawStrError as Ord>⟧.cmp a b ≡ in_order (error_ranks a) (error_ranks b) }
+    ensures bases { (a b : Base) → ⟦<Base as Ord>⟧.cmp a b
+        ≡ nat_cmp (base_number a) (base_number b) }
+    ensures literals { (a b : LiteralKind) →
+        ⟦<LiteralKind as Ord>⟧.cmp a b ≡ in_order (kind_ranks a) (kind_ranks b) }
+    ensures guarded { (a b : GuardedStr) →
+        ⟦<GuardedStr as Ord>⟧.cmp a b ≡ in_order (guarded_ranks a) (guarded_ranks b) }
+    ensures errors { (a b : RawStrError) →
+        ⟦<RawStrError as Ord>⟧.cmp a b ≡ in_order (error_ranks a) (error_ranks b) }
     ensures partial_bases { (a b : Base) →
         ⟦<Base as PartialOrd>⟧.partial_cmp a b ≡ Some (nat_cmp (base_number a) (base_number b)) }
     ensures partial_literals { (a b : LiteralKind) →
-        ⟦<LiteralKind as PartialOrd>⟧.partial_cmp a b ≡ Some (in_order (kind_ranks a) (kind_ranks b)) }
+        ⟦<LiteralKind as PartialOrd>⟧.partial_cmp a b
+        ≡ Some (in_order (kind_ranks a) (kind_ranks b)) }
     ensures partial_guarded { (a b : GuardedStr) →
-        ⟦<GuardedStr as PartialOrd>⟧.partial_cmp a b ≡ Some (in_order (guarded_ranks a) (guarded_ranks b)) }
+        ⟦<GuardedStr as PartialOrd>⟧.partial_cmp a b
+        ≡ Some (in_order (guarded_ranks a) (guarded_ranks b)) }
     ensures partial_errors { (a b : RawStrError) →
-        ⟦<RawStrError as PartialOrd>⟧.partial_cmp a b ≡ Some (in_order (error_ranks a) (error_ranks b)) }
+        ⟦<RawStrError as PartialOrd>⟧.partial_cmp a b
+        ≡ Some (in_order (error_ranks a) (error_ranks b)) }
 {}
 
 /// The number of a base, which is `base as u32`: 2, 8, 10 or 16.

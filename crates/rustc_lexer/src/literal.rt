@@ -1,8 +1,12 @@
 //! Lexes the bodies and suffixes of literals.
-ghost use Rattle.std.specs.Prelude.{◌≡◌, ◌==◌, ◌&&◌, ◌<◌, ◌≤◌, ◌^◌, ◌-◌, ℕ, List, Bool, true, false, nat_le, min, drop, length, chars, MatchOption, IsUtf8, IfSome};
+ghost use Rattle.std.specs.Prelude.{◌≡◌, ◌==◌, ◌&&◌, ◌<◌, ◌≤◌, ◌^◌, ◌-◌, ℕ, List, Bool, true};
+ghost use Rattle.std.specs.Prelude.{false, nat_le, min, drop, length, chars, MatchOption, IsUtf8};
+ghost use Rattle.std.specs.Prelude.{IfSome};
 ghost use Rattle.std.specs.List.{prefix_len};
 ghost use Rattle.rustc_lexer.specs.Character.{is, identifier_len};
-ghost use Rattle.rustc_lexer.specs.Literals.{with_suffix, bare, literal, quoted_body, quoted_rest, string_body, raw_body, raw_form, hashes, hashes_of, guarded_body, guarded_form, guarded_string};
+ghost use Rattle.rustc_lexer.specs.Literals.{with_suffix, bare, literal, quoted_body, quoted_rest};
+ghost use Rattle.rustc_lexer.specs.Literals.{string_body, raw_body, raw_form, hashes, hashes_of};
+ghost use Rattle.rustc_lexer.specs.Literals.{guarded_body, guarded_form, guarded_string};
 ghost use Rattle.rustc_lexer.specs.Scanned.{IsRead};
 
 use crate::character::is_id_start;
@@ -192,7 +196,8 @@ pub fn raw_form(text: &str) -> (Option<u8>, &str)
 // Passes at most n hashes at the front. Answers how many of the n are not there, and what follows.
 fn skip_closing(text: &str, n: usize) -> (usize, &str)
     ensures missing { result.0 ≡ n - min n (hashes (chars text.now)).size }
-    ensures rest { chars result.1.now ≡ drop (min n (hashes (chars text.now)).size) (chars text.now) }
+    ensures rest { chars result.1.now ≡ drop (min n (hashes (chars text.now)).size)
+        (chars text.now) }
     ensures utf8 { IsUtf8 result.1.now }
 {
     let mut left = n;

@@ -1,6 +1,8 @@
 //! Lexes numbers.
 ghost use Rattle.std.specs.Prelude.{◌≡◌, chars};
-ghost use Rattle.rustc_lexer.specs.Numbers.{digit_of, run, is_exponent_mark, exponent, after_fraction, fraction, begins_fraction, after_run, based, decimal, number};
+ghost use Rattle.rustc_lexer.specs.Numbers.{digit_of, run, is_exponent_mark, exponent};
+ghost use Rattle.rustc_lexer.specs.Numbers.{after_fraction, fraction, begins_fraction, after_run};
+ghost use Rattle.rustc_lexer.specs.Numbers.{based, decimal, number};
 ghost use Rattle.rustc_lexer.specs.Scanned.{IsRead};
 
 use crate::character::is_id_start;

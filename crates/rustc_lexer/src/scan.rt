@@ -1,8 +1,11 @@
 //! Scans the characters of a text: each function takes the remaining text and gives what remains
 //! after it.
-ghost use Rattle.std.specs.Prelude.{◌≡◌, ◌<◌, ◌≤◌, ◌^◌, ◌==◌, ◌&&◌, ◌||◌, ℕ, Bool, drop, ◌∷◌, [], ◌++◌, length, chars, encode_utf8, MatchOption, IfSome, IsTrue, IsUtf8, get_or};
+ghost use Rattle.std.specs.Prelude.{◌≡◌, ◌<◌, ◌≤◌, ◌^◌, ◌==◌, ◌&&◌, ◌||◌, ℕ, Bool, drop, ◌∷◌, []};
+ghost use Rattle.std.specs.Prelude.{◌++◌, length, chars, encode_utf8, MatchOption, IfSome, IsTrue};
+ghost use Rattle.std.specs.Prelude.{IsUtf8, get_or};
 ghost use Rattle.std.specs.List.{prefix_len, position_or_len};
-ghost use Rattle.rustc_lexer.specs.Character.{ascii_part, char_at, is, is_whitespace, is_id_continue, is_digit, is_hex_digit};
+ghost use Rattle.rustc_lexer.specs.Character.{ascii_part, char_at, is, is_whitespace};
+ghost use Rattle.rustc_lexer.specs.Character.{is_id_continue, is_digit, is_hex_digit};
 ghost use Rattle.rustc_lexer.specs.FirstCharacter.{start_of};
 
 use crate::character::{is_id_continue, is_whitespace};
@@ -153,7 +156,8 @@ pub fn is_hex_digit(c: char) -> bool
 // The first character and what follows it, or `None` at the end.
 #[inline(always)]
 pub fn split_first(text: &str) -> Option<(char, &str)>
-    ensures chars { MatchOption result (chars text.now ≡ []) (λ (c, rest). chars text.now ≡ c ∷ chars rest.now) }
+    ensures chars { MatchOption result (chars text.now ≡ [])
+        (λ (c, rest). chars text.now ≡ c ∷ chars rest.now) }
     ensures utf8 { IsUtf8 text.now × IfSome result (λ p. IsUtf8 p.1.now) }
     ensures bytes { IfSome result (λ (c, rest). text.now ≡ encode_utf8 c ++ rest.now) }
 {
@@ -268,8 +272,10 @@ pub fn skip_while<'a, T: CharTest>(text: &'a str) -> &'a str
 // may follow.
 #[inline(always)]
 pub fn skip_ascii<'a, T: CharTest>(text: &'a str) -> &'a str
-    ensures on { drop (prefix_len T.passes (chars result.now)) (chars result.now) ≡ drop (prefix_len T.passes (chars text.now)) (chars text.now) }
-    ensures stops { char_at (chars result.now) 0 < 128 → chars result.now ≡ drop (prefix_len T.passes (chars text.now)) (chars text.now) }
+    ensures on { drop (prefix_len T.passes (chars result.now)) (chars result.now)
+        ≡ drop (prefix_len T.passes (chars text.now)) (chars text.now) }
+    ensures stops { char_at (chars result.now) 0 < 128 →
+        chars result.now ≡ drop (prefix_len T.passes (chars text.now)) (chars text.now) }
     ensures bytes { result.now ≡ drop (prefix_len (ascii_part T.passes) text.now) text.now }
 {
     &text[ascii_run::<T>(text)..]
@@ -305,7 +311,8 @@ fn skip_chars<'a, T: CharTest>(text: &'a str) -> &'a str
 
 // The text from the first line feed on.
 pub fn from_line_feed(text: &str) -> &str
-    ensures { chars result.now ≡ drop (position_or_len (λ c. c == 10) (chars text.now)) (chars text.now) }
+    ensures { chars result.now ≡ drop (position_or_len (λ c. c == 10) (chars text.now))
+        (chars text.now) }
 {
     match memchr(b'\n', text.as_bytes()) {
         Some(i) => &text[i..],
@@ -315,7 +322,8 @@ pub fn from_line_feed(text: &str) -> &str
 
 // The text from the first `"` on.
 pub fn from_quote(text: &str) -> &str
-    ensures { chars result.now ≡ drop (position_or_len (is "\"") (chars text.now)) (chars text.now) }
+    ensures { chars result.now ≡ drop (position_or_len
+        (is "\"") (chars text.now)) (chars text.now) }
 {
     match memchr(b'"', text.as_bytes()) {
         Some(i) => &text[i..],
@@ -325,7 +333,8 @@ pub fn from_quote(text: &str) -> &str
 
 // The text from the first `"` or `\` on.
 pub fn from_quote_or_escape(text: &str) -> &str
-    ensures { chars result.now ≡ drop (position_or_len (λ c. is "\"" c || is "\\" c) (chars text.now)) (chars text.now) }
+    ensures { chars result.now ≡ drop (position_or_len
+        (λ c. is "\"" c || is "\\" c) (chars text.now)) (chars text.now) }
 {
     match memchr2(b'"', b'\\', text.as_bytes()) {
         Some(i) => &text[i..],

@@ -1,7 +1,8 @@
 //! Finds the first line of a script, `#!..`.
 ghost use Rattle.std.specs.Prelude.{◌≡◌, ◌<◌, ◌≤◌, ◌^◌, length, chars};
 ghost use Rattle.rustc_lexer.specs.Lexing.{tokens_of};
-ghost use Rattle.rustc_lexer.specs.Shebang.{is_blank, is_open_bracket, begins_with_bracket, first_line, shebang};
+ghost use Rattle.rustc_lexer.specs.Shebang.{is_blank, is_open_bracket, begins_with_bracket};
+ghost use Rattle.rustc_lexer.specs.Shebang.{first_line, shebang};
 
 use crate::lex::tokenize;
 use crate::token::{FrontmatterAllowed, TokenKind};

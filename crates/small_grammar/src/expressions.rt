@@ -2,7 +2,9 @@
 //! begins otherwise.
 ghost use Rattle.std.specs.Prelude.{◌≡◌, Some};
 ghost use Rattle.small_grammar.specs.Expressions.{◌⨾◌, ◌∣◌, many, maybe};
-ghost use Rattle.small_grammar.specs.SmallGrammar.{takes, path, post, atom, operand, binop, expr, name, literal, number, brace, group, generics, type, word, glued};
+ghost use Rattle.small_grammar.specs.SmallGrammar.{takes, path, post, atom, operand, binop, expr};
+ghost use Rattle.small_grammar.specs.SmallGrammar.{name, literal, number, brace, group, generics};
+ghost use Rattle.small_grammar.specs.SmallGrammar.{type, word, glued};
 
 use crate::names::name;
 use crate::operators::{binop, reference, sign};
@@ -54,7 +56,8 @@ fn post<'a>(trees: &TtIter<'a>) -> Option<TtIter<'a>>
 
 // What may follow a dot.
 fn member<'a>(trees: &TtIter<'a>) -> Option<TtIter<'a>>
-    ensures { result ≡ takes (name ⨾ maybe (glued "::" ⨾ generics) ∣ word "await" ∣ number) trees.now }
+    ensures { result ≡ takes (name ⨾ maybe (glued "::" ⨾ generics) ∣ word "await" ∣ number)
+        trees.now }
 {
     if let Some(rest) = name(trees) {
         return Some(with_generics(rest));
@@ -149,7 +152,8 @@ fn prefix<'a>(trees: &TtIter<'a>) -> Option<TtIter<'a>>
 
 // The trees after all signs before an operand.
 fn prefixes<'a>(trees: &TtIter<'a>) -> TtIter<'a>
-    ensures { Some result ≡ takes (many (glued "- ! *" ∣ glued "& &&" ⨾ maybe (word "mut"))) trees.now }
+    ensures { Some result ≡ takes (many (glued "- ! *" ∣ glued "& &&" ⨾ maybe (word "mut")))
+        trees.now }
 {
     let mut rest = trees.copied();
     while let Some(next) = prefix(&rest) {

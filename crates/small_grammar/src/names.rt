@@ -2,7 +2,8 @@
 ghost use Rattle.std.specs.Prelude.{◌≡◌, ◌&&◌, ◌||◌, codes};
 ghost use Rattle.std.specs.List.{list_any};
 ghost use Rattle.small_grammar.specs.Text.{has_text, is_raw_name, is_word, same_text};
-ghost use Rattle.small_grammar.specs.Tokens.{token_at, a_name, a_restriction, is_name, is_among, reserved, path_words, words, is_place};
+ghost use Rattle.small_grammar.specs.Tokens.{token_at, a_name, a_restriction, is_name, is_among};
+ghost use Rattle.small_grammar.specs.Tokens.{reserved, path_words, words, is_place};
 ghost use Rattle.tt.specs.FirstTrees.{first_ident};
 ghost use Rattle.tt_data.specs.Lent.{ident_lent};
 
@@ -70,28 +71,33 @@ fn is_of_two(text: &str) -> bool
 }
 
 fn is_of_three(text: &str) -> bool
-    ensures { result ≡ is_among (words (codes "for let mod mut pub ref use dyn box try gen")) text.now }
+    ensures { result ≡ is_among (words (codes "for let mod mut pub ref use dyn box try gen"))
+        text.now }
 {
     let words: [&str; 11] = OF_THREE;
     is_among(words.as_slice(), text)
 }
 
 fn is_of_four(text: &str) -> bool
-    ensures { result ≡ is_among (words (codes "else enum impl loop move self Self true type priv")) text.now }
+    ensures { result ≡ is_among (words (codes "else enum impl loop move self Self true type priv"))
+        text.now }
 {
     let words: [&str; 10] = OF_FOUR;
     is_among(words.as_slice(), text)
 }
 
 fn is_of_five(text: &str) -> bool
-    ensures { result ≡ is_among (words (codes "break const crate false match super trait where while async await final macro yield")) text.now }
+    ensures { result ≡ is_among (words (codes
+        "break const crate false match super trait where while async await final macro yield"))
+        text.now }
 {
     let words: [&str; 14] = OF_FIVE;
     is_among(words.as_slice(), text)
 }
 
 fn is_of_six(text: &str) -> bool
-    ensures { result ≡ is_among (words (codes "extern return static struct unsafe become typeof")) text.now }
+    ensures { result ≡ is_among (words (codes "extern return static struct unsafe become typeof"))
+        text.now }
 {
     let words: [&str; 7] = OF_SIX;
     is_among(words.as_slice(), text)
@@ -174,7 +180,8 @@ pub(crate) fn name<'a>(trees: &TtIter<'a>) -> Option<TtIter<'a>>
 
 // Whether a visibility may be restricted to exactly this.
 fn is_lone_place(text: &str) -> bool
-    ensures { result ≡ (same_text text.now (codes "crate") || (same_text text.now (codes "self") || same_text text.now (codes "super"))) }
+    ensures { result ≡ (same_text text.now (codes "crate") ||
+        (same_text text.now (codes "self") || same_text text.now (codes "super"))) }
 {
     text == "crate" || text == "self" || text == "super"
 }
@@ -182,7 +189,9 @@ fn is_lone_place(text: &str) -> bool
 // Whether a visibility may be restricted to what begins with this name, which is all of it if
 // `is_alone`.
 fn begins_place(ident: IdentRef<'_>, is_alone: bool) -> bool
-    ensures { result ≡ (is_word "in" (ident_lent ident.entry) || (is_alone && (is_word "crate" (ident_lent ident.entry) || (is_word "self" (ident_lent ident.entry) || is_word "super" (ident_lent ident.entry))))) }
+    ensures { result ≡ (is_word "in" (ident_lent ident.entry) ||
+        (is_alone && (is_word "crate" (ident_lent ident.entry) ||
+        (is_word "self" (ident_lent ident.entry) || is_word "super" (ident_lent ident.entry))))) }
 {
     if is_raw_name(ident) {
         return false;

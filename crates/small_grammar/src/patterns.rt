@@ -4,7 +4,8 @@ ghost use Rattle.std.specs.Prelude.{◌≡◌, ◌≤◌, Some, None};
 ghost use Rattle.tt_data.specs.Forest.{size};
 ghost use Rattle.small_grammar.specs.Expressions.{◌⨾◌, ◌∣◌, many, maybe};
 ghost use Rattle.small_grammar.specs.Signs.{reference_sign, binding_sign, bare_pattern};
-ghost use Rattle.small_grammar.specs.SmallGrammar.{takes, pat, pat_top, num, name, word, paren, brace, bracket, group, glued, path};
+ghost use Rattle.small_grammar.specs.SmallGrammar.{takes, pat, pat_top, num, name, word, paren};
+ghost use Rattle.small_grammar.specs.SmallGrammar.{brace, bracket, group, glued, path};
 
 use crate::expressions::{call, path};
 use crate::names::name;

@@ -4,7 +4,8 @@ ghost use Rattle.std.specs.Prelude.{◌≡◌, [], ◌∷◌};
 ghost use Rattle.small_grammar.specs.Expressions.{◌∣◌};
 ghost use Rattle.small_grammar.specs.Signs.{joint_punct};
 ghost use Rattle.small_grammar.specs.SmallGrammar.{takes, paren, bracket, group, lifetime};
-ghost use Rattle.small_grammar.specs.Tokens.{token_at, a_word, an_identifier, a_literal, a_number, a_group, puncts, operator, same_operator};
+ghost use Rattle.small_grammar.specs.Tokens.{token_at, a_word, an_identifier, a_literal, a_number};
+ghost use Rattle.small_grammar.specs.Tokens.{a_group, puncts, operator, same_operator};
 
 use crate::names::has_text;
 use crate::units::{Operator, first_operator};

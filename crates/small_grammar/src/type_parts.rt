@@ -4,7 +4,8 @@ ghost use Rattle.std.specs.Prelude.{◌≡◌, ◌≤◌, [], ◌∷◌, Some, N
 ghost use Rattle.tt_data.specs.Forest.{size};
 ghost use Rattle.small_grammar.specs.Expressions.{◌⨾◌, ◌∣◌, maybe};
 ghost use Rattle.small_grammar.specs.Signs.{type_sign};
-ghost use Rattle.small_grammar.specs.SmallGrammar.{takes, type, lifetime, name, literal, group, paren, bracket, brace, single, word};
+ghost use Rattle.small_grammar.specs.SmallGrammar.{takes, type, lifetime, name, literal, group};
+ghost use Rattle.small_grammar.specs.SmallGrammar.{paren, bracket, brace, single, word};
 
 use crate::names::name;
 use crate::tokens::{group, group_of, lifetime, literal, parts, punct, two_puncts, word};

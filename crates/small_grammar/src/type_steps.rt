@@ -1,11 +1,14 @@
 //! Steps through a type, from one place where another type may begin to the next. None of these
 //! functions calls itself: what is open around a place is kept by the caller.
-ghost use Rattle.std.specs.Prelude.{◌≡◌, ◌<◌, ◌≤◌, ◌+◌, ◌*◌, [], ◌∷◌, Some, None, option_map, IfSome};
+ghost use Rattle.std.specs.Prelude.{◌≡◌, ◌<◌, ◌≤◌, ◌+◌, ◌*◌, [], ◌∷◌, Some, None, option_map};
+ghost use Rattle.std.specs.Prelude.{IfSome};
 ghost use Rattle.tt_data.specs.Forest.{size};
 ghost use Rattle.small_grammar.specs.Expressions.{◌⨾◌, ◌∣◌, many, maybe};
-ghost use Rattle.small_grammar.specs.Levels.{after, behind, behind_result, ending, segments, left, closing, gone, weight, next_weight};
+ghost use Rattle.small_grammar.specs.Levels.{after, behind, behind_result, ending, segments, left};
+ghost use Rattle.small_grammar.specs.Levels.{closing, gone, weight, next_weight};
 ghost use Rattle.small_grammar.specs.Signs.{bare_type};
-ghost use Rattle.small_grammar.specs.SmallGrammar.{takes, type, arrow, arg, generics, tpath, bound, name, paren, single, word};
+ghost use Rattle.small_grammar.specs.SmallGrammar.{takes, type, arrow, arg, generics, tpath, bound};
+ghost use Rattle.small_grammar.specs.SmallGrammar.{name, paren, single, word};
 
 use crate::names::name;
 use crate::tokens::{group_of, lifetime, punct, two_puncts};
@@ -72,7 +75,8 @@ fn more_bounds<'a>(trees: TtIter<'a>) -> Begun<'a>
 
 // A bound that is a path, perhaps with `?` before it, up to behind its first name.
 fn by_path<'a>(trees: &TtIter<'a>) -> Option<Begun<'a>>
-    ensures what { option_map left result ≡ takes (maybe (single "?") ⨾ tpath ⨾ many (single "+" ⨾ bound)) trees.now }
+    ensures what { option_map left result
+        ≡ takes (maybe (single "?") ⨾ tpath ⨾ many (single "+" ⨾ bound)) trees.now }
     ensures further { IfSome result (λ b. weight b ≤ size trees.now * 8) }
 {
     let rest = path_start(&punct(trees, '?').unwrap_or(trees.copied()))?;
@@ -81,7 +85,8 @@ fn by_path<'a>(trees: &TtIter<'a>) -> Option<Begun<'a>>
 
 // Bounds after `dyn` or `impl`, up to behind the first name of a path.
 fn begin_bounds<'a>(trees: &TtIter<'a>) -> Option<Begun<'a>>
-    ensures what { option_map left result ≡ takes ((word "dyn" ∣ word "impl") ⨾ bound ⨾ many (single "+" ⨾ bound)) trees.now }
+    ensures what { option_map left result
+        ≡ takes ((word "dyn" ∣ word "impl") ⨾ bound ⨾ many (single "+" ⨾ bound)) trees.now }
     ensures further { IfSome result (λ b. weight b ≤ size trees.now * 8) }
 {
     first_bound(&bounds_sign(trees)?)
@@ -212,7 +217,9 @@ fn begin_arg<'a>(trees: &TtIter<'a>) -> Option<Begun<'a>>
 
 /// The beginning of the first argument, or the `>` if there is none. `None` if neither comes.
 pub(crate) fn first_arg<'a>(trees: &TtIter<'a>) -> Option<Next<'a>>
-    ensures what { gone (takes closing) result ≡ takes (maybe (arg ⨾ many (single "," ⨾ arg) ⨾ maybe (single ",")) ⨾ single ">") trees.now }
+    ensures what { gone (takes closing) result
+        ≡ takes (maybe (arg ⨾ many (single "," ⨾ arg) ⨾ maybe (single ",")) ⨾ single ">")
+        trees.now }
     ensures further { IfSome result (λ n. next_weight n ≤ size trees.now * 8) }
 {
     match begin_arg(trees) {

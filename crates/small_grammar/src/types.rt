@@ -8,7 +8,8 @@ ghost use Rattle.arrayvec.specs.ArrayVec.{array_vec_len};
 ghost use Rattle.tt_data.specs.Forest.{size};
 ghost use Rattle.small_grammar.specs.declared.type_steps.Begun.TheVariants.{Angle, Arrow};
 ghost use Rattle.small_grammar.specs.Expressions.{Taking};
-ghost use Rattle.small_grammar.specs.Levels.{after, left, gone, outside, within, size_of, weight, next_size, next_weight};
+ghost use Rattle.small_grammar.specs.Levels.{after, left, gone, outside, within, size_of, weight};
+ghost use Rattle.small_grammar.specs.Levels.{next_size, next_weight};
 ghost use Rattle.small_grammar.specs.SmallGrammar.{takes, type, generics, tpath, single};
 
 use crate::tokens::{punct, two_puncts};
@@ -115,9 +116,11 @@ fn open_angle<'a>(trees: &TtIter<'a>) -> Option<TtIter<'a>>
 // Goes into arguments, all within others. `None` if these cannot be complete.
 fn enter_args<'a>(trees: TtIter<'a>, follow: Follow, levels: &mut Levels) -> Option<Begun<'a>>
     requires { array_vec_len levels.old < 128 }
-    ensures what { option_and_then (λ b. within (outside true) levels.new.items (left b)) result ≡ within (outside true) levels.old.items (left (Angle trees.entry follow)) }
+    ensures what { option_and_then (λ b. within (outside true) levels.new.items (left b)) result
+        ≡ within (outside true) levels.old.items (left (Angle trees.entry follow)) }
     ensures further { IfSome result (λ b. size_of b ≤ size trees.entry) }
-    ensures falls { IfSome result (λ b. weight b + array_vec_len levels.new * 4 ≤ size trees.entry * 8 + 1 + array_vec_len levels.old * 4) }
+    ensures falls { IfSome result (λ b. weight b + array_vec_len levels.new * 4
+        ≤ size trees.entry * 8 + 1 + array_vec_len levels.old * 4) }
     ensures room { array_vec_len levels.new ≤ 128 }
 {
     let Some(open) = open_angle(&trees) else {
@@ -147,9 +150,11 @@ fn pass_args<'a>(trees: TtIter<'a>, follow: Follow) -> Begun<'a>
 // Goes into a result if a type comes behind `->`.
 fn enter_result<'a>(trees: TtIter<'a>, follow: Option<Follow>, levels: &mut Levels) -> Begun<'a>
     requires { array_vec_len levels.old < 128 }
-    ensures what { (around : Taking) → within around levels.new.items (left result) ≡ within around levels.old.items (left (Arrow trees.entry follow)) }
+    ensures what { (around : Taking) → within around levels.new.items (left result)
+        ≡ within around levels.old.items (left (Arrow trees.entry follow)) }
     ensures further { size_of result ≤ size trees.entry }
-    ensures falls { weight result + array_vec_len levels.new * 4 ≤ size trees.entry * 8 + 2 + array_vec_len levels.old * 4 }
+    ensures falls { weight result + array_vec_len levels.new * 4
+        ≤ size trees.entry * 8 + 2 + array_vec_len levels.old * 4 }
     ensures room { array_vec_len levels.new ≤ 128 }
 {
     let Some(rest) = two_puncts(&trees, '-', '>') else {
@@ -177,9 +182,11 @@ fn pass_result<'a>(trees: TtIter<'a>, follow: Option<Follow>) -> Begun<'a>
 // Goes out of what is open after a type or an argument. `None` if nothing that may follow it comes.
 fn leave<'a>(trees: TtIter<'a>, is_arg: bool, levels: &mut Levels) -> Option<Next<'a>>
     requires { array_vec_len levels.old ≤ 128 }
-    ensures what { gone (within (outside is_arg) levels.new.items) result ≡ within (outside is_arg) levels.old.items trees.entry }
+    ensures what { gone (within (outside is_arg) levels.new.items) result
+        ≡ within (outside is_arg) levels.old.items trees.entry }
     ensures further { IfSome result (λ n. next_size n ≤ size trees.entry) }
-    ensures falls { IfSome result (λ n. next_weight n + array_vec_len levels.new * 4 ≤ size trees.entry * 8 + array_vec_len levels.old * 4) }
+    ensures falls { IfSome result (λ n. next_weight n + array_vec_len levels.new * 4
+        ≤ size trees.entry * 8 + array_vec_len levels.old * 4) }
     ensures room { array_vec_len levels.new ≤ 128 }
 {
     match levels.pop() {

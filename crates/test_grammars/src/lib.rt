@@ -1,7 +1,8 @@
 //! Grammars that are not Rust's, for tests: a matcher must behave alike with any grammar.
 #![tactic(auto)]
 
-ghost use Rattle.test_grammars.specs.FakeLaws.{one_step-within, one_step-takes, all_steps-within, all_steps-takes, a_fault-within, a_fault-takes};
+ghost use Rattle.test_grammars.specs.FakeLaws.{one_step-within, one_step-takes, all_steps-within};
+ghost use Rattle.test_grammars.specs.FakeLaws.{all_steps-takes, a_fault-within, a_fault-takes};
 ghost use Rattle.std.specs.Prelude.{◌≡◌};
 ghost use Rattle.test_grammars.specs.Fakes.{at_end, one_step, all_steps, a_fault};
 

@@ -14,15 +14,6 @@ same_or zero (suc b) = inr (λ e. absurd (omega (arith, e)))
 same_or (suc a) zero = inr (λ e. absurd (omega (arith, e)))
 same_or (suc a) (suc b) = elim (same_or a b) [ inl e ↦ inl (ap suc e) | inr other ↦ inr (λ e. other (omega (arith, e))) ]
 
--- no number is chained
-pub chained_none : (class links ends : ℕ → ℕ) → ((c : ℕ) → ends c ≡ 0) → AreChained 0 class links ends
-chained_none class links ends empty = record {
-  last = λ i below. absurd (omega (arith, below));
-  last_is = λ c i e. absurd (omega (arith, e, empty c));
-  before = λ i j order below. absurd (omega (arith, below));
-  before_is = λ j i below. absurd (omega (arith, below));
-}
-
 module _ (n : ℕ) (class links ends : ℕ → ℕ) (class2 links2 ends2 : ℕ → ℕ) where
   -- the next number goes to the end of its chain
   module _ (is : AreChained n class links ends) (classes : (i : ℕ) → i < n → class2 i ≡ class i) (befores : (i : ℕ) → i < n → links2 i ≡ links i)

@@ -1,7 +1,12 @@
+pub mod AroundLemmas
+pub mod ChangedLemmas
 pub mod ChainLemmas
 pub mod DistinctLemmas
+pub mod ListLemmas
+pub mod ReadLemmas
 pub mod LinkLemmas
 pub mod MarkLemmas
+pub mod MarkChanges
 pub mod PackingLemmas
 pub mod RecordLemmas
 pub mod NumberLemmas
@@ -10,6 +15,7 @@ pub mod ReadingLemmas
 pub mod RunLemmas
 pub mod TableLemmas
 pub mod TokensLemmas
+pub mod StartLemmas
 pub mod PatchLemmas
 pub mod RelabelLemmas
 pub mod EqualLemmas

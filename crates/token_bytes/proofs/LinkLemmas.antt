@@ -3,7 +3,7 @@ use Rattle.std.proofs.Common.{◌≡◌, ◌∙◌, ap, sym, subst, refl, ℕ, s
 use Rattle.std.proofs.lemmas.List.{get_or_append_left, get_or_at, get_or_read, get_or-set_other, get_or-set_same, length-set, length_push}
 use Rattle.token_bytes.specs.Numbers.{AreChained, AreLinked, class_at, class_of}
 use Rattle.token_bytes.specs.declared.text_chains.TextChains.{TextChains}
-use Rattle.token_bytes.proofs.ChainLemmas.{IsReached, chained_fewer, chained_more, chained_none, goes_back, reached_first, reached_next}
+use Rattle.token_bytes.proofs.ChainLemmas.{IsReached, chained_fewer, chained_more, goes_back, reached_first, reached_next}
 
 abbrev pub link : TextChains → ℕ → ℕ
 link chains i = get_or chains.before.items i 0
@@ -13,13 +13,6 @@ end chains c = get_or chains.last.items c 0
 
 abbrev pub size_of : TextChains → ℕ
 size_of chains = length chains.last.items
-
--- no texts are linked
-pub linked_none : (chains : TextChains) → length chains.before.items ≡ 0 → ((c : ℕ) → end chains c ≡ 0) → AreLinked chains []
-linked_none chains none ends = record {
-  count = none;
-  chained = chained_none (class_at (size_of chains) []) (link chains) (end chains) ends;
-}
 
 -- the same texts are linked by the same chains
 pub linked_same : (old new : TextChains) (table : List (List ℕ)) → new.last.items ≡ old.last.items → new.before.items ≡ old.before.items → AreLinked old table → AreLinked new table

@@ -8,7 +8,7 @@ use Rattle.tt_data.specs.declared.tree.Subtree.{Subtree}
 use Rattle.tt_data.specs.declared.tree.TokenTree.{TokenTree}
 use Rattle.tt_data.specs.declared.tree.TokenTree.TheVariants as token
 use Rattle.tt_data.specs.declared.leaf.Leaf.TheVariants as as_leaf
-use Rattle.token_storage.specs.Records.{head_at}
+use Rattle.token_bytes.specs.TokenLists.{head_at}
 use Rattle.token_bytes.specs.Records.{first_size, text_of, token_bytes}
 use Rattle.token_bytes.specs.Packing.{number_in, number_of, record_of, records, table_after, tokens_in, with_token}
 use Rattle.token_bytes.specs.Packed.{ArePacked, IsToken}

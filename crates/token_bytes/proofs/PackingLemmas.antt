@@ -1,5 +1,5 @@
 -- Records and a table give a list of tokens back.
-use Rattle.std.proofs.Common.{rules, if◌then◌else◌, ◌≡◌, ◌↔◌, ◌∙◌, ap, sym, ℕ, ◌*◌, ◌≤◌, List, [], ◌∷◌, ◌++◌, length, drop, refl, arith, append_assoc, append-nil, length-append, slice_index_or, nat_eq, Option, Some, None, Bool, true, false}
+use Rattle.std.proofs.Common.{rules, if◌then◌else◌, ◌≡◌, ◌∙◌, ap, sym, ℕ, ◌*◌, ◌≤◌, List, [], ◌∷◌, ◌++◌, length, drop, refl, arith, append_assoc, append-nil, length-append, slice_index_or, nat_eq, Option, Some, None, Bool, true, false}
 use Rattle.std.proofs.Math.Seq.{drop-append_seam}
 use Rattle.std.specs.Cmp.Lexicographic.{pointwise}
 use Rattle.tt_data.specs.declared.tree.TokenTree.{TokenTree}
@@ -105,18 +105,7 @@ tokens_in-records table others (t ∷ rest) more =
     ap (λ x. x ∷ tokens_in (length rest) (table_after next rest ++ others) (drop (first_size ((record_of table t ++ records next rest) ++ more)) ((record_of table t ++ records next rest) ++ more))) first
     ∙ ap (λ l. t ∷ l) others_back
 
-tokens_back : (ts : List TokenTree) → tokens_in (length ts) (table_after [] ts) (records [] ts) ≡ ts
+pub tokens_back : (ts : List TokenTree) → tokens_in (length ts) (table_after [] ts) (records [] ts) ≡ ts
 tokens_back ts =
     ap (λ l. tokens_in (length ts) l (records [] ts)) (sym (append-nil (table_after [] ts)))
     ∙ ap (tokens_in (length ts) (table_after [] ts ++ [])) (sym (append-nil (records [] ts))) ∙ tokens_in-records [] [] ts []
-
--- two lists of as many tokens are the same exactly where their bytes and their tables are
-pub same_stored : (a b : List TokenTree) → length a ≡ length b
-    → ((records [] a ≡ records [] b) × (table_after [] a ≡ table_after [] b)) ↔ (a ≡ b)
-same_stored a b counts = (
-  λ parts.
-      sym (tokens_back a) ∙ ap (λ n. tokens_in n (table_after [] a) (records [] a)) counts
-      ∙ ap (λ l. tokens_in (length b) l (records [] a)) parts.1 ∙ ap (tokens_in (length b) (table_after [] b)) parts.0
-      ∙ tokens_back b,
-  λ e. (ap (records []) e, ap (table_after []) e),
-)

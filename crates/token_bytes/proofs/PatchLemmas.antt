@@ -8,11 +8,11 @@ use Rattle.tt_data.specs.declared.span.Span.{Span}
 use Rattle.tt_data.specs.declared.tree.TokenTree.{TokenTree}
 use Rattle.tt_data.specs.declared.tree.TokenTree.TheVariants as token
 use Rattle.tt_data.specs.Spans.{anchor_with}
-use Rattle.token_storage.specs.Records.{alone_token}
+use Rattle.token_bytes.specs.TokenLists.{alone_token}
 use Rattle.token_bytes.specs.Marks.{IsMarkIn, record_size}
 use Rattle.token_bytes.specs.Packed.{ArePacked, IsToken}
 use Rattle.token_bytes.specs.Packing.{number_in, records, table_after, with_token}
-use Rattle.token_bytes.specs.Records.{first_byte, first_size, group_tag, hashes, ident_tag, literal_tag, punct_tag, span_bytes, span_in, text_of, token_bytes, word}
+use Rattle.token_bytes.specs.Records.{first_size, group_tag, hashes, ident_tag, literal_tag, punct_tag, span_bytes, span_in, text_of, token_bytes, word}
 use Rattle.token_bytes.specs.Relabelled.{RecordAt, renamed_span, renamed_token}
 use Rattle.token_bytes.specs.declared.mark.Mark.{Mark}
 use Rattle.token_bytes.proofs.MarkLemmas.{Holds, bytes_size, holds, mark_is, parts_at, token_among}
@@ -102,29 +102,11 @@ behind_record at bytes r = ap (drop at) r.bytes_are ∙ drop_at r.before (token_
 pub size_at : (at : ℕ) (bytes : List ℕ) (r : RecordAt at bytes) → first_size (drop at bytes) ≡ record_size r.token
 size_at at bytes r = ap first_size (behind_record at bytes r) ∙ first_size-bytes r.n r.token r.more ∙ bytes_size r.n r.token
 
-pub record_fits : (at : ℕ) (bytes : List ℕ) (r : RecordAt at bytes) → length bytes ≡ at + record_size r.token + length r.more
-record_fits at bytes r = omega (
-  arith,
-  ap length r.bytes_are,
-  r.at_is,
-  length-append r.before (token_bytes r.n r.token ++ r.more),
-  length-append (token_bytes r.n r.token) r.more,
-  bytes_size r.n r.token,
-)
-
 pub size_least : (t : TokenTree) → 18 ≤ record_size t
 size_least (token.Subtree s) = omega arith
 size_least (token.Leaf (as_leaf.Punct p)) = omega arith
 size_least (token.Leaf (as_leaf.Ident i)) = omega arith
 size_least (token.Leaf (as_leaf.Literal l)) = omega arith
-
-pub tag_at : (at : ℕ) (bytes : List ℕ) (r : RecordAt at bytes) → first_byte (drop at bytes) ≡ first_byte (token_bytes r.n r.token)
-tag_at at bytes r = ap first_byte (behind_record at bytes r) ∙ first r.token where
-  first : (t : TokenTree) → first_byte (token_bytes r.n t ++ r.more) ≡ first_byte (token_bytes r.n t)
-  first (token.Subtree s) = refl
-  first (token.Leaf (as_leaf.Punct p)) = refl
-  first (token.Leaf (as_leaf.Ident i)) = refl
-  first (token.Leaf (as_leaf.Literal l)) = refl
 
 -- another token in place of one with the same text
 pub record Replaces (p : Mark) (ts : List TokenTree) (bytes : List ℕ) (table : List (List ℕ)) : Type 0 where

@@ -1,5 +1,5 @@
 -- The records of a packed form are read one by one.
-use Rattle.std.proofs.Common.{◌≡◌, ◌∙◌, ap, subst, sym, refl, ℕ, ◌-◌, ◌<◌, ◌≤◌, List, [], ◌∷◌, ◌++◌, length, drop, arith, append_assoc, append-nil, length-append, nat_eq, Option, Some, None, Bool, true, false}
+use Rattle.std.proofs.Common.{◌≡◌, ap, subst, sym, refl, ℕ, ◌-◌, ◌<◌, ◌≤◌, List, [], ◌∷◌, ◌++◌, length, drop, arith, length-append, nat_eq, Option, Some, None, Bool, true, false}
 use Rattle.std.specs.Prelude.{All, ⊤}
 use Rattle.std.specs.Str.{IsCharBoundary}
 use Rattle.std.specs.Cmp.Lexicographic.{pointwise}
@@ -8,11 +8,11 @@ use Rattle.tt_data.specs.declared.leaf.Leaf.TheVariants as as_leaf
 use Rattle.tt_data.specs.declared.tree.TokenTree.{TokenTree}
 use Rattle.tt_data.specs.declared.tree.TokenTree.TheVariants as token
 use Rattle.tt_data.specs.Literals.{HasSuffix}
-use Rattle.token_bytes.specs.Records.{BeginsWithToken, Sort, of_group, of_punct, of_ident, of_literal, Decodes, first_byte, first_size, first_token, size_of, sort_of, text_of, token_bytes}
-use Rattle.token_bytes.specs.Packing.{number_in, number_of, record_of, records, table_after, with_text, with_token}
-use Rattle.token_bytes.specs.Packed.{ArePacked, IsToken}
+use Rattle.token_bytes.specs.Records.{BeginsWithToken, Sort, of_group, of_punct, of_ident, of_literal, Decodes, first_byte, first_size, size_of, sort_of, text_of, token_bytes}
+use Rattle.token_bytes.specs.Packing.{number_in, number_of, record_of, with_text, with_token}
+use Rattle.token_bytes.specs.Packed.{IsToken}
 use Rattle.token_bytes.proofs.RecordLemmas.{HasText, first_size-bytes, number-word, sort-group, sort-ident, sort-literal, sort-punct}
-use Rattle.token_bytes.proofs.PackingLemmas.{added, first_token-record, has_text, past-record, table_after-added, table_after-append}
+use Rattle.token_bytes.proofs.PackingLemmas.{has_text}
 
 -- the number of a token's text is that of an entry
 abbrev IsWithin : ℕ → List (List ℕ) → Option (List ℕ) → Type 0
@@ -63,68 +63,6 @@ first_size-least bytes = least (sort_of (first_byte bytes)) where
   least (of_ident k) = omega arith
   least of_literal = omega arith
 
--- a list of tokens that is read as far as the records left
-pub record ReadsOn (all done : List TokenTree) (rest : List ℕ) : Type 0 where
-  pub others : List TokenTree
-  pub parts : all ≡ done ++ others
-  pub rest_is : rest ≡ records (table_after [] done) others
-
-pub reads_none : (all : List TokenTree) (bytes : List ℕ) → bytes ≡ records [] all → ReadsOn all [] bytes
-reads_none all bytes are = record { others = all; parts = refl; rest_is = are }
-
--- what the next record of a packed list is
-pub record ReadsNext (all done : List TokenTree) (table : List (List ℕ)) (rest : List ℕ) : Type 0 where
-  pub begins : BeginsWithToken table rest
-  pub goes_on : ReadsOn all (done ++ first_token table rest ∷ []) (drop (first_size rest) rest)
-
-reads_first : (done more : List TokenTree) (t : TokenTree) → IsToken t
-    → ReadsNext (done ++ t ∷ more) done (table_after [] (done ++ t ∷ more)) (records (table_after [] done) (t ∷ more))
-reads_first done more t is =
-    let table : List (List ℕ) = table_after [] done in
-    let next : List (List ℕ) = with_token (text_of t) table in
-    let others : List (List ℕ) = added next more in
-    let rest : List ℕ = records table (t ∷ more) in
-    let whole : table_after [] (done ++ t ∷ more) ≡ next ++ others = table_after-append [] done (t ∷ more) ∙ table_after-added next more in
-    let first : first_token (table_after [] (done ++ t ∷ more)) rest ≡ t = rw whole (first_token-record table others t (records next more)) in
-    record {
-      begins = rw whole (begins-record table others t (records next more) is);
-      goes_on = subst (λ x. ReadsOn (done ++ t ∷ more) (done ++ x ∷ []) (drop (first_size rest) rest)) (sym first) (record {
-        others = more;
-        parts = sym (append_assoc done (t ∷ []) more);
-        rest_is = past-record table t (records next more) ∙ ap (λ l. records l more) (sym (table_after-append [] done (t ∷ [])));
-      });
-    }
-
 token_at : (done more : List TokenTree) (t : TokenTree) → All IsToken (done ++ t ∷ more) → IsToken t
 token_at [] more t are = All-head IsToken t more are
 token_at (x ∷ done) more t are = token_at done more t (All-tail IsToken x (done ++ t ∷ more) are)
-
-pub reads_next : (all done : List TokenTree) (bytes rest : List ℕ) (table : List (List ℕ))
-    → ArePacked all bytes table → 0 < length rest → ReadsOn all done rest → ReadsNext all done table rest
-reads_next all done bytes rest table packed some so_far = by so_far.others so_far.parts so_far.rest_is where
-  by : (others : List TokenTree) → all ≡ done ++ others → rest ≡ records (table_after [] done) others → ReadsNext all done table rest
-  by [] parts is = absurd (omega (arith, ap length is))
-  by (t ∷ more) parts is =
-      let token_is : IsToken t = token_at done more t (subst (All IsToken) parts packed.tokens) in
-      let noted : table ≡ table_after [] (done ++ t ∷ more) = packed.table_is ∙ ap (table_after []) parts in
-      subst (λ l. ReadsNext l done table rest) (sym parts)
-      (subst (λ l. ReadsNext (done ++ t ∷ more) done l rest) (sym noted)
-      (subst (λ b. ReadsNext (done ++ t ∷ more) done (table_after [] (done ++ t ∷ more)) b) (sym is) (reads_first done more t token_is)))
-
--- where no byte is left, all is read
-pub reads_all : (all done : List TokenTree) (rest : List ℕ) → length rest ≡ 0 → ReadsOn all done rest → done ≡ all
-reads_all all done rest none so_far = by so_far.others so_far.parts so_far.rest_is where
-  by : (others : List TokenTree) → all ≡ done ++ others → rest ≡ records (table_after [] done) others → done ≡ all
-  by [] parts is = sym (parts ∙ append-nil done)
-  by (t ∷ more) parts is =
-      let table : List (List ℕ) = table_after [] done in
-      let first : List ℕ = record_of table t in
-      let behind : List ℕ = records (with_token (text_of t) table) more in
-      absurd (omega (arith, ap length is, length-append first behind, first_size-bytes (number_in (text_of t) table) t [], first_size-least (first ++ [])))
-
-pub goes_on_with : (all done more : List TokenTree) (table : List (List ℕ)) (rest left : List ℕ) (t : TokenTree)
-    → more ≡ done ++ t ∷ [] → t ≡ first_token table rest
-    → left ≡ drop (first_size rest) rest → ReadsNext all done table rest → ReadsOn all more left
-goes_on_with all done more table rest left t put is behind next =
-    let with_it : more ≡ done ++ first_token table rest ∷ [] = put ∙ ap (λ x. done ++ x ∷ []) is in
-    subst (λ l. ReadsOn all l left) (sym with_it) (subst (λ b. ReadsOn all (done ++ first_token table rest ∷ []) b) (sym behind) next.goes_on)

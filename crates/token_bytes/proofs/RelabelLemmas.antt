@@ -3,13 +3,14 @@ use Rattle.std.proofs.Common.{◌≡◌, ◌∙◌, ap, subst, sym, ℕ, zero, s
 use Rattle.tt_data.specs.declared.leaf.Leaf.TheVariants as as_leaf
 use Rattle.tt_data.specs.declared.tree.TokenTree.{TokenTree}
 use Rattle.tt_data.specs.declared.tree.TokenTree.TheVariants as token
-use Rattle.token_storage.proofs.ChangedLemmas.{changed_all, changed_next, changed_up_to}
+use Rattle.token_bytes.proofs.ChangedLemmas.{changed_all, changed_next, changed_up_to}
 use Rattle.token_bytes.specs.Marks.{IsMarkIn, mark_of, record_size, records_size}
 use Rattle.token_bytes.specs.Packed.{ArePacked}
 use Rattle.token_bytes.specs.Packing.{tokens_in}
 use Rattle.token_bytes.specs.Records.{token_bytes}
 use Rattle.token_bytes.specs.Relabelled.{RecordAt, renamed_token}
 use Rattle.token_bytes.specs.declared.mark.Mark.{Mark}
+use Rattle.token_bytes.proofs.MarkChanges.{AreAlike}
 use Rattle.token_bytes.proofs.MarkLemmas.{Holds, mark_at, mark_bytes}
 use Rattle.token_bytes.proofs.PatchLemmas.{Replaces, renamed_is, renamed_text, replaces}
 use Rattle.token_bytes.proofs.TokensLemmas.{sizes_next}
@@ -38,6 +39,10 @@ size_kept h (token.Subtree s) = refl
 size_kept h (token.Leaf (as_leaf.Punct p)) = refl
 size_kept h (token.Leaf (as_leaf.Ident i)) = refl
 size_kept h (token.Leaf (as_leaf.Literal l)) = refl
+
+pub alike_renamed : (h : ℕ → ℕ) (ts : List TokenTree) → AreAlike (map (renamed_token h) ts) ts
+alike_renamed h [] = tt
+alike_renamed h (t ∷ more) = (size_kept h t, renamed_text h t, alike_renamed h more)
 
 sizes_kept : (h : ℕ → ℕ) (k n : ℕ) (ts : List TokenTree) → records_size (take n (changed_up_to (renamed_token h) k ts)) ≡ records_size (take n ts)
 sizes_kept h zero n ts = refl

@@ -3,7 +3,7 @@ use Rattle.std.proofs.Common.{◌≡◌, ◌∙◌, ap, subst, sym, ℕ, zero, s
 use Rattle.std.specs.Prelude.{All}
 use Rattle.std.proofs.lemmas.List.Elements.{All-head, All-tail}
 use Rattle.tt_data.specs.declared.tree.TokenTree.{TokenTree}
-use Rattle.token_bytes.specs.Records.{BeginsWithToken, first_size, first_token, text_of}
+use Rattle.token_bytes.specs.Records.{first_size, first_token, text_of}
 use Rattle.token_bytes.specs.Packing.{record_of, records, table_after, tokens_in, with_token}
 use Rattle.token_bytes.specs.Packed.{ArePacked, IsToken}
 use Rattle.token_bytes.specs.Runs.{AreDecoded, past}
@@ -53,25 +53,6 @@ decoded_packed ts bytes table packed =
     rw (packed.bytes_are, packed.table_is)
     (subst (λ l. AreDecoded (length ts) l (records [] ts)) (append-nil (table_after [] ts))
     (subst (λ b. AreDecoded (length ts) (table_after [] ts ++ []) b) (append-nil (records [] ts)) (decoded_records [] [] ts [] packed.tokens)))
-
--- the first token of a run, and the run of the others
-pub record DecodedFirst (n m : ℕ) (table : List (List ℕ)) (bytes : List ℕ) : Type 0 where
-  pub begins : BeginsWithToken table bytes
-  pub others : AreDecoded m table (drop (first_size bytes) bytes)
-  pub tokens : tokens_in n table bytes ≡ first_token table bytes ∷ tokens_in m table (drop (first_size bytes) bytes)
-  pub on : past m (drop (first_size bytes) bytes) ≡ past n bytes
-
-pub first_decoded : (n m : ℕ) (table : List (List ℕ)) (bytes : List ℕ) → n ≡ m + 1 → AreDecoded n table bytes → DecodedFirst n m table bytes
-first_decoded zero m table bytes e decoded = absurd (omega (arith, e))
-first_decoded (suc n) m table bytes e decoded =
-    let rest : List ℕ = drop (first_size bytes) bytes in
-    let same : n ≡ m = omega (arith, e) in
-    record {
-      begins = decoded.0;
-      others = subst (λ i. AreDecoded i table rest) same decoded.1;
-      tokens = ap (λ i. first_token table bytes ∷ tokens_in i table rest) same;
-      on = ap (λ i. past i rest) (sym same);
-    }
 
 -- a run cut after some tokens
 pub record Cut (n k : ℕ) (table : List (List ℕ)) (bytes : List ℕ) (ts : List TokenTree) : Type 0 where

@@ -1,6 +1,6 @@
 -- Runs of stored tokens: where their records are.
 use Rattle.std.proofs.Common.{◌≡◌, ◌∙◌, ap, subst, sym, ℕ, zero, suc, ◌+◌, ◌-◌, ◌*◌, ◌≤◌, ◌<◌, List, [], ◌∷◌, length, take, drop, max, refl, arith, slice_get, true, false, is_some, IsSome, option_map, Option, Some, None}
-use Rattle.token_storage.specs.Records.{has_leaf_at, head_at, leaf_in}
+use Rattle.token_bytes.specs.TokenLists.{has_leaf_at, head_at, leaf_in}
 use Rattle.std.proofs.lemmas.Bool.{false≢true}
 use Rattle.std.proofs.lemmas.List.{drop-drop, length-drop, length-take, length-take-le}
 use Rattle.tt_data.specs.declared.leaf.Leaf.TheVariants as as_leaf
@@ -48,9 +48,6 @@ pub run_fits : (n : ℕ) (table : List (List ℕ)) (bytes : List ℕ) → AreDec
 run_fits zero table bytes decoded = omega arith
 run_fits (suc n) table bytes decoded =
     omega (arith, decoded.0.whole, length-drop (first_size bytes) bytes, run_fits n table (drop (first_size bytes) bytes) decoded.1)
-
-pub run_none : (n : ℕ) (bytes : List ℕ) → n ≡ 0 → run_size n bytes ≡ 0
-run_none n bytes none = ap (λ k. run_size k bytes) none
 
 -- what is stored has the bytes of a run
 pub length-bytes_from : (at : ℕ) (stored : Option Stored) → length (bytes_from at stored) ≡ stored_size stored - at

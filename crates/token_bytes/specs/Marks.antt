@@ -3,7 +3,7 @@ use Rattle.std.specs.Prelude.{◌≡◌, ℕ, suc, ◌+◌, ◌-◌, List, [], �
 use Rattle.tt_data.specs.declared.leaf.Leaf.TheVariants as as_leaf
 use Rattle.tt_data.specs.declared.tree.TokenTree.{TokenTree}
 use Rattle.tt_data.specs.declared.tree.TokenTree.TheVariants as token
-use Rattle.token_storage.specs.Records.{head_at}
+use Rattle.token_bytes.specs.TokenLists.{head_at}
 use Rattle.token_bytes.specs.Packing.{records, table_after}
 use Rattle.token_bytes.specs.Records.{Sort, of_ident, of_literal, first_byte, number, sort_of}
 use Rattle.token_bytes.specs.declared.mark.Mark.{Mark}

@@ -1,5 +1,5 @@
 -- Runs of records, and the tokens that they decode to.
-use Rattle.std.specs.Prelude.{ℕ, zero, suc, ◌+◌, ⊤, List, [], drop, length, Option, Some, None, option_map}
+use Rattle.std.specs.Prelude.{◌≡◌, ℕ, zero, suc, ◌+◌, ⊤, List, [], ◌∷◌, drop, length, Option, Some, None, option_map}
 use denote.Bor.{Bor}
 use Rattle.std.specs.Coded.{×_prop, Unit-prop}
 use Rattle.std.proofs.Props.{props}
@@ -35,6 +35,16 @@ table_in (Some s) = s.texts.texts.items
 abbrev pub IsRun : Option Stored → ℕ → ℕ → Type 0
 IsRun stored at count = AreDecoded count (table_in stored) (bytes_from at stored)
 
+-- bytes at which each 64th record begins, from the one after n records on
+abbrev pub BeginAt : ℕ → List ℕ → List ℕ → Type 0
+BeginAt n [] bytes = ⊤
+BeginAt n (byte ∷ more) bytes = (byte ≡ run_size n bytes) × BeginAt (n + 64) more bytes
+
+-- so many records come before a byte, and those that are noted begin where it says
+abbrev pub IsAt : Option Stored → ℕ → ℕ → Type 0
+IsAt None at before = before ≡ 0
+IsAt (Some s) at before = (at ≡ run_size before s.records) × BeginAt 64 s.starts.items s.records
+
 -- the bytes of all that is stored
 abbrev pub stored_size : Option Stored → ℕ
 stored_size None = 0
@@ -61,3 +71,20 @@ IsLentRun lent at count = IsRun (option_map (λ s. s.now) lent) at count
 
 pub IsLentRun-prop : (lent : Option (Bor Stored)) (at count : ℕ) → IsProp (IsLentRun lent at count)
 IsLentRun-prop lent at count = IsRun-prop (option_map (λ s. s.now) lent) at count
+
+BeginAt-prop : (n : ℕ) (starts bytes : List ℕ) → IsProp (BeginAt n starts bytes)
+BeginAt-prop n [] bytes = Unit-prop
+BeginAt-prop n (byte ∷ more) bytes =
+    ×_prop (Prim.hlevel props) (BeginAt-prop (n + 64) more bytes)
+
+pub IsAt-prop : (stored : Option Stored) (at before : ℕ) → IsProp (IsAt stored at before)
+IsAt-prop None at before = Prim.hlevel props
+IsAt-prop (Some s) at before =
+    ×_prop (Prim.hlevel props) (BeginAt-prop 64 s.starts.items s.records)
+
+-- the same of what is lent
+abbrev pub IsLentAt : Option (Bor Stored) → ℕ → ℕ → Type 0
+IsLentAt lent at before = IsAt (option_map (λ s. s.now) lent) at before
+
+pub IsLentAt-prop : (lent : Option (Bor Stored)) (at before : ℕ) → IsProp (IsLentAt lent at before)
+IsLentAt-prop lent at before = IsAt-prop (option_map (λ s. s.now) lent) at before

@@ -5,7 +5,7 @@ ghost use Rattle.std.specs.Prelude.{fold, vec_len};
 ghost use Rattle.std.specs.Prelude.{IfErr, IfOk, OnOk, OnErr};
 ghost use Rattle.tt_data.specs.declared.tree.TokenTree.{TokenTree};
 ghost use Rattle.tt_data.specs.declared.tree.TokenTree.TheVariants as token;
-ghost use Rattle.token_storage.specs.Records.{alone_token, has_leaf_at, head_at};
+ghost use Rattle.token_bytes.specs.TokenLists.{alone_token, has_leaf_at, head_at};
 ghost use Rattle.token_bytes.specs.Records.{text_of};
 ghost use Rattle.token_bytes.specs.Packing.{number_in, record_of, with_token};
 ghost use Rattle.token_bytes.specs.Packed.{IsToken};
@@ -15,7 +15,8 @@ ghost use Rattle.token_bytes.specs.Numbers.{IsNumbered};
 use crate::in_place::{relabel_record, set_alone};
 use crate::mark::Mark;
 use crate::reading::{first_extent, from};
-use crate::stored::{Stored, is_same};
+use crate::renaming::Renaming;
+use crate::stored::{Stored, is_same, note_start};
 use crate::text_table::TextTable;
 use crate::tokens::Tokens;
 use crate::writing::{append_token, head_bytes};
@@ -24,7 +25,6 @@ use std::alloc::{AllocError, Global};
 use std::fmt;
 use std::hash::Hasher;
 use std::marker::Model;
-use token_storage::Renaming;
 use tt_data::{Leaf, Subtree, Symbol, TokenTree};
 
 /// An owned run of tokens.
@@ -42,6 +42,7 @@ impl Model for TokenBuffer {
     ghost use Rattle.token_bytes.specs.Packing.{tokens_in};
     ghost use Rattle.token_bytes.specs.Packed.{ArePacked};
     ghost use Rattle.token_bytes.specs.Numbers.{IsNumbered};
+    ghost use Rattle.token_bytes.specs.Starts.{AreStarts};
 
     ghost Value = { List TokenTree };
 
@@ -49,7 +50,9 @@ impl Model for TokenBuffer {
 
     ghost invariant = { λ b. ArePacked
         (tokens_in b.count b.stored.texts.texts.items b.stored.records)
-        b.stored.records b.stored.texts.texts.items × IsNumbered b.stored.texts };
+        b.stored.records b.stored.texts.texts.items × IsNumbered b.stored.texts
+        × AreStarts 64 b.stored.starts.items
+        (tokens_in b.count b.stored.texts.texts.items b.stored.records) };
 }
 
 // The text of a token, if it has one; of a literal, with its suffix.
@@ -112,10 +115,7 @@ impl TokenBuffer {
     pub fn new(alloc: Global) -> TokenBuffer
         ensures { result ≡ [] }
     {
-        let stored = Stored {
-            records: ByteBuffer::new(alloc),
-            texts: TextTable::new(alloc),
-        };
+        let stored = Stored::new(alloc, ByteBuffer::new(alloc));
         TokenBuffer {
             stored,
             count: 0,
@@ -129,10 +129,7 @@ impl TokenBuffer {
     {
         let mut records = ByteBuffer::new(alloc);
         records.reserve(tokens.saturating_mul(18))?;
-        let stored = Stored {
-            records,
-            texts: TextTable::new(alloc),
-        };
+        let stored = Stored::new(alloc, records);
         Ok(TokenBuffer {
             stored,
             count: 0,
@@ -207,6 +204,8 @@ impl TokenBuffer {
         match append(&mut self.stored.records, &mut self.stored.texts, token) {
             Ok(()) => {
                 self.count += 1;
+                let bytes = self.stored.records.bytes();
+                note_start(&mut self.stored.starts, self.count, bytes.len());
                 Ok(())
             }
             Err(error) => {
@@ -263,6 +262,7 @@ impl TokenBuffer {
     {
         self.stored.records.cut_back(mark.bytes);
         self.stored.texts.cut_back(mark.texts);
+        self.stored.starts.truncate(mark.count / 64);
         self.count = mark.count;
     }
 
@@ -280,6 +280,7 @@ impl TokenBuffer {
         ensures { self.new ≡ take at.count self.old ++ drop (at.count + 1) self.old }
     {
         self.stored.records.cut_out(at.bytes, 31);
+        self.stored.starts.truncate(at.count / 64);
         self.count -= 1;
     }
 
@@ -378,7 +379,7 @@ impl TokenBuffer {
 impl TokenBuffer {
     ghost use Rattle.std.specs.Cmp.Lexicographic.{pointwise};
     ghost use Rattle.std.specs.Prelude.{map};
-    ghost use Rattle.token_storage.specs.Anchors.{IsAtHand, answer_of};
+    ghost use Rattle.token_bytes.specs.Anchors.{IsAtHand, answer_of};
     ghost use Rattle.token_bytes.specs.Packing.{records, table_after};
     ghost use Rattle.tt_data.specs.Spans.{anchor_with, token_with};
 
@@ -405,13 +406,27 @@ impl TokenBuffer {
         }
     }
 
+    /// The bytes: the records of the tokens.
+    pub fn bytes(&self) -> &[u8]
+        ensures { result.now ≡ records [] self.now }
+    {
+        self.stored.records.bytes()
+    }
+
+    /// The table: each text of the tokens once, in the order of first use.
+    pub fn texts(&self) -> &[Symbol]
+        ensures { result.now ≡ table_after [] self.now }
+    {
+        self.stored.texts.texts.as_slice()
+    }
+
     /// Feeds the bytes as a whole to a hasher, and then each text of the table.
     pub fn feed<H: Hasher>(&self, state: &mut H)
         ensures { state.new ≡ fold H.write state.old
             (records [] self.now ∷ table_after [] self.now) }
     {
-        state.write(self.stored.records.bytes());
-        feed_texts(self.stored.texts.texts.as_slice(), state);
+        state.write(self.bytes());
+        feed_texts(self.texts(), state);
     }
 }
 

@@ -1,15 +1,15 @@
 //! Changes records in place.
 ghost use Rattle.std.specs.Prelude.{◌≡◌, ◌++◌, ◌+◌, ◌≤◌, length};
-ghost use Rattle.token_storage.specs.Records.{alone_token};
-ghost use Rattle.token_storage.specs.Anchors.{IsAtHand, answer_of};
+ghost use Rattle.token_bytes.specs.TokenLists.{alone_token};
+ghost use Rattle.token_bytes.specs.Anchors.{IsAtHand, answer_of};
 ghost use Rattle.token_bytes.specs.Marks.{record_size};
 ghost use Rattle.token_bytes.specs.Records.{token_bytes};
 ghost use Rattle.token_bytes.specs.Relabelled.{RecordAt, renamed_span, renamed_token};
 
 use crate::reading::{first_size, from, span_in};
+use crate::renaming::Renaming;
 use crate::writing::span_bytes;
 use byte_buffer::ByteBuffer;
-use token_storage::Renaming;
 use tt_data::Span;
 
 /// Makes the record at a byte that of a punct that is `Alone`, if it is of a punct.

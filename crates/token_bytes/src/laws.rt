@@ -6,7 +6,7 @@ ghost use Rattle.tt_data.specs.declared.tree.TokenTree.{TokenTree};
 
 /// Records and their table give the tokens back, whatever follows both. Records of two lists, one
 /// after the other, follow each other, and the table goes on. A record has at most 31 bytes. Two
-/// lists of as many tokens are equal exactly where their bytes and their tables are.
+/// lists are equal exactly where their bytes and their tables are.
 pub fn stored_tokens()
     ensures back { (table others : List (List ℕ)) (ts : List TokenTree) (more : List ℕ) →
         tokens_in (length ts) (table_after table ts ++ others) (records table ts ++ more) ≡ ts }
@@ -18,6 +18,6 @@ pub fn stored_tokens()
         (more : List (List ℕ)) × (table_after table ts ≡ table ++ more) }
     ensures size { (table : List (List ℕ)) (ts : List TokenTree) → length (records table ts)
         ≤ 31 * length ts }
-    ensures same { (a b : List TokenTree) → length a ≡ length b →
-        (((records [] a ≡ records [] b) × (table_after [] a ≡ table_after [] b)) ↔ (a ≡ b)) }
+    ensures same { (a b : List TokenTree) →
+        ((records [] a ≡ records [] b) × (table_after [] a ≡ table_after [] b)) ↔ (a ≡ b) }
 {}

@@ -12,6 +12,7 @@ mod in_place;
 pub mod laws;
 mod mark;
 mod reading;
+mod renaming;
 mod stored;
 mod text_chains;
 mod text_table;
@@ -20,4 +21,5 @@ mod writing;
 
 pub use buffer::TokenBuffer;
 pub use mark::{Mark, Place};
+pub use renaming::Renaming;
 pub use tokens::Tokens;

@@ -1,5 +1,5 @@
 //! Borrowed runs of tokens.
-ghost use Rattle.token_bytes.specs.Runs.{IsLentRun, IsLentRun-prop};
+ghost use Rattle.token_bytes.specs.Runs.{IsLentAt, IsLentAt-prop, IsLentRun, IsLentRun-prop};
 
 mod around;
 mod first;
@@ -15,11 +15,13 @@ use tt_data::{Subtree, TokenTree};
 pub struct Tokens<'a> {
     // Nothing is stored where there is no token.
     stored: Option<&'a Stored>,
-    // The byte at which the first record begins.
+    // The byte at which the first record begins, and the number of records before it.
     at: usize,
+    before: usize,
     // The number of the tokens.
     count: usize,
     ghost decoded: { IsLentRun stored at count } by { IsLentRun-prop stored at count },
+    ghost known: { IsLentAt stored at before } by { IsLentAt-prop stored at before },
 }
 
 #[tactic(auto, unfolding(crate::specs::Items::items))]
@@ -28,7 +30,7 @@ impl<'a> Tokens<'a> {
     ghost use Rattle.std.specs.Prelude.{None, length, take, drop, slice_get};
     ghost use Rattle.token_bytes.specs.Items.{items};
     ghost use Rattle.token_bytes.specs.Marks.{IsPlaceIn};
-    ghost use Rattle.token_storage.specs.Records.{has_leaf_at, head_at};
+    ghost use Rattle.token_bytes.specs.TokenLists.{has_leaf_at, head_at};
 
     /// No tokens.
     pub fn empty() -> Tokens<'a>
@@ -37,6 +39,7 @@ impl<'a> Tokens<'a> {
         Tokens {
             stored: None,
             at: 0,
+            before: 0,
             count: 0,
         }
     }
@@ -69,6 +72,7 @@ impl<'a> Tokens<'a> {
         Tokens {
             stored: self.stored,
             at: self.at,
+            before: self.before,
             count,
         }
     }
@@ -85,8 +89,7 @@ impl<'a> Tokens<'a> {
         self.past(self.run_size(count), count)
     }
 
-    /// The first `count` tokens, and those after them. Where both are some, it takes time in
-    /// proportion to `count`.
+    /// The first `count` tokens, and those after them.
     #[inline(always)]
     pub fn split_at(self, count: usize) -> (Tokens<'a>, Tokens<'a>)
         requires { count ≤ length (items self) }
@@ -139,7 +142,7 @@ impl<'a> Tokens<'a> {
         self.after(before).first_head()
     }
 
-    /// Whether a leaf is at this index. It takes time in proportion to the index.
+    /// Whether a leaf is at this index.
     pub fn is_leaf_at(self, at: usize) -> bool
         ensures leaf { result ≡ has_leaf_at at (items self.entry) }
         ensures within { IsTrue result → at < length (items self.entry) }
@@ -150,7 +153,7 @@ impl<'a> Tokens<'a> {
         self.behind(at).lent_leaf().is_some()
     }
 
-    /// The last token. It takes time in proportion to the number of tokens.
+    /// The last token.
     pub fn last(self) -> Option<TokenTree>
         ensures { result ≡ slice_get (items self.entry) (length (items self.entry) - 1) }
     {

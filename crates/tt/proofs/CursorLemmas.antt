@@ -11,7 +11,7 @@ use Rattle.tt_data.specs.Flat.{length-preorder, forest_of-preorder, IsPreorder-p
 use Rattle.tt_data.proofs.ForestLemmas.{joined_assoc, size-joined}
 use Rattle.tt.specs.Places.{Around, Place, beginning, first_token, bumped, ended, innermost_head}
 use Rattle.tt.specs.CursorTokens.{whole_in, start_in, Stands, place_of, IsPlaced}
-use Rattle.token_storage.specs.Lists.{Reaches, IsTreeOf, BeginsListOf}
+use Rattle.token_bytes.specs.Lists.{Reaches, IsTreeOf, BeginsListOf}
 use Rattle.tt.proofs.PlaceLemmas.{placed}
 use Rattle.tt.proofs.FrameLemmas.{list_in, pre_in, post_in, framed, length-pre_in, ahead, behind, fits, head_in}
 
@@ -236,14 +236,6 @@ first_is tokens whole = ap (λ ts. slice_get ts 0) (sym whole) ∙ first_of (for
 pub head_read : (tokens : List TokenTree) (start at i : ℕ) (p : Place) (t : TokenTree) → Stands tokens start at p → i ≡ start - 1 → 0 < start
     → t ≡ slice_index_or tokens i t → Some t ≡ option_map token.Subtree (innermost_head p)
 head_read tokens start at i p t stands n some read = ap Some (rw n at read) ∙ head_token tokens start at p t stands some
-
-pub is_head : (t : TokenTree) (s : Subtree) (o : Option Subtree) → Some t ≡ option_map token.Subtree o → t ≡ token.Subtree s → Some s ≡ o
-is_head t s None e same = absurd cc
-is_head t s (Some r) e same = cc
-
-pub is_no_leaf : (t : TokenTree) (l : Leaf) (o : Option Subtree) → Some t ≡ option_map token.Subtree o → t ≡ token.Leaf l → ⊥
-is_no_leaf t l None e same = cc
-is_no_leaf t l (Some r) e same = cc
 
 -- what a list of tokens shows, once it is known to be that of some trees
 pub shows : (tokens : List TokenTree) (f : Forest) → tokens ≡ preorder f → IsPreorder tokens × (forest_of tokens ≡ f)

@@ -8,8 +8,8 @@ use Rattle.tt_data.specs.declared.tree.TokenTree.{TokenTree}
 use Rattle.tt_data.specs.declared.tree.TokenTree.TheVariants as token
 use Rattle.tt.specs.CursorTokens.{Stands, start_in}
 use Rattle.tt.specs.Places.{Around, Place, first_token, innermost_head, two_leaves}
-use Rattle.token_storage.specs.Records.{as_head, head_at, leaf_in}
-use Rattle.token_storage.proofs.ReadLemmas.{ReadAt, read_at}
+use Rattle.token_bytes.specs.TokenLists.{as_head, head_at, leaf_in}
+use Rattle.token_bytes.proofs.ReadLemmas.{ReadAt, read_at}
 use Rattle.tt.proofs.CursorLemmas.{head_read, first_is, root_of}
 use Rattle.tt.proofs.FrameLemmas.{fits}
 

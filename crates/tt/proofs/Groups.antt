@@ -11,7 +11,7 @@ use Rattle.tt_data.specs.declared.delimiter.Delimiter.{Delimiter}
 use Rattle.tt_data.specs.declared.tree.Subtree.{Subtree}
 use Rattle.tt_data.specs.declared.tree.TokenTree.{TokenTree}
 use Rattle.tt_data.specs.declared.tree.TokenTree.TheVariants as token
-use Rattle.token_storage.specs.Records.{inside_of}
+use Rattle.token_bytes.specs.TokenLists.{inside_of}
 use Rattle.tt.specs.Tops.{Top, tree_of, tokens_of, only_group, IsOneGroup}
 use Rattle.tt.proofs.Limits.{size-whole}
 

@@ -1,19 +1,19 @@
 -- A builder's marks, as it goes on.
-use Rattle.std.proofs.Common.{◌≡◌, ◌⊎◌, ℕ, zero, suc, ◌+◌, ◌-◌, ◌<◌, ◌≤◌, List, [], ◌∷◌, ◌++◌, length, take, drop, set, map, reverse, refl, arith, Option, Some, None, IfSome, true, slice_index_or, inl, inr}
+use Rattle.std.proofs.Common.{◌≡◌, ◌⊎◌, ℕ, zero, suc, ◌+◌, ◌-◌, ◌<◌, ◌≤◌, List, [], ◌∷◌, ◌++◌, length, take, drop, set, map, reverse, refl, arith, Option, Some, None, IfSome, true, inl, inr}
 use Rattle.std.proofs.lemmas.Bool.{le-ltb, cases_lt}
 use Rattle.std.proofs.lemmas.List.{length-take, take_all}
 use Rattle.tt_data.specs.declared.tree.Subtree.{Subtree}
 use Rattle.tt_data.specs.declared.tree.TokenTree.{TokenTree}
 use Rattle.tt_data.specs.declared.tree.TokenTree.TheVariants as token
-use Rattle.token_storage.specs.declared.mark.Mark.{Mark}
+use Rattle.token_bytes.specs.declared.mark.Mark.{Mark}
 use Rattle.tt.specs.declared.top_subtree.builder.Opening.{Opening}
 use Rattle.tt.specs.BuilderTokens.{IsHeld, IsCut, AreHeads, AreMarks, begins_invisible, moved_back}
-use Rattle.token_storage.specs.Marks.{mark_of, IsMarkIn, IsHeadIn}
-use Rattle.token_storage.specs.Records.{alone_token}
-use Rattle.token_storage.proofs.MarkLemmas.{IsMarkIn-append, IsMarkIn-take, IsMarkIn-set_head, IsMarkIn-alone, IsMarkIn-before, IsHeadIn-mark, IsHeadIn-append, IsHeadIn-take, IsHeadIn-set_head, IsHeadIn-alone, IsHeadIn-before, IsHeadIn-behind, last_head, head_from, start_marked, end_marked}
+use Rattle.token_bytes.specs.Marks.{mark_of, IsMarkIn, IsHeadIn}
+use Rattle.token_bytes.proofs.MarkLemmas.{IsMarkIn-append, IsMarkIn-take, IsHeadIn-mark, IsHeadIn-append, IsHeadIn-take, last_head, head_from, start_marked, end_marked}
+use Rattle.token_bytes.proofs.MarkChanges.{IsMarkIn-set_head, IsMarkIn-before, IsHeadIn-set_head, IsHeadIn-before, IsHeadIn-behind}
 use Rattle.tt.specs.Tops.{IsOneGroup}
 use Rattle.tt.proofs.Points.{kept_is}
-use Rattle.token_storage.proofs.ReadLemmas.{ReadAt}
+use Rattle.token_bytes.proofs.ReadLemmas.{ReadAt}
 
 pub top_head : (tokens : List TokenTree) (os : List Opening) → AreHeads tokens os → IsHeadIn (mark_of []) tokens
 top_head tokens [] heads = heads
@@ -65,25 +65,6 @@ marks_closed tokens s o outer last settled first one marks =
         | inr same ↦ rw same at
       ];
     }
-
--- a token made `Alone`
-heads_alone : (tokens : List TokenTree) (n : ℕ) (t : TokenTree) (os : List Opening) → t ≡ slice_index_or tokens n t → AreHeads tokens os
-    → AreHeads (set tokens n (alone_token t)) os
-heads_alone tokens n t [] there heads = IsHeadIn-alone (mark_of []) tokens n t there heads
-heads_alone tokens n t (o ∷ outer) there heads = (IsHeadIn-alone o.at tokens n t there heads.0, heads_alone tokens n t outer there heads.1)
-
-closed_alone : (tokens : List TokenTree) (n : ℕ) (t : TokenTree) (last : Option Mark) → t ≡ slice_index_or tokens n t
-    → IfSome last (λ m. IsMarkIn m tokens) → IfSome last (λ m. IsMarkIn m (set tokens n (alone_token t)))
-closed_alone tokens n t None there closed = tt
-closed_alone tokens n t (Some m) there closed = IsMarkIn-alone m tokens n t there closed
-
-pub marks_alone : (tokens : List TokenTree) (n : ℕ) (t : TokenTree) (os : List Opening) (last : Option Mark) (settled : Mark)
-    → t ≡ slice_index_or tokens n t → AreMarks tokens os last settled → AreMarks (set tokens n (alone_token t)) os last settled
-marks_alone tokens n t os last settled there marks = record {
-  heads = heads_alone tokens n t os there marks.heads;
-  closed = closed_alone tokens n t last there marks.closed;
-  known = IsMarkIn-alone settled tokens n t there marks.known;
-}
 
 -- fewer than so many tokens come before each opening
 abbrev AreBelow : ℕ → List Opening → Type 0

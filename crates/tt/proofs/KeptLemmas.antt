@@ -8,10 +8,10 @@ use Rattle.tt_data.specs.declared.tree.TokenTree.{TokenTree}
 use Rattle.tt_data.specs.declared.tree.TokenTree.TheVariants as token
 use Rattle.tt_data.specs.Forest.{Forest, empty, leaf, group}
 use Rattle.tt.specs.declared.buffer.ListAround.{ListAround}
-use Rattle.token_storage.specs.Marks.{IsMarkIn}
+use Rattle.token_bytes.specs.Marks.{IsPlaceIn}
 use Rattle.tt.specs.Places.{Around, Place, first_token}
 use Rattle.tt.specs.CursorTokens.{start_in, Stands, IsKept}
-use Rattle.token_storage.specs.Lists.{IsTreeOf, BeginsListOf}
+use Rattle.token_bytes.specs.Lists.{IsTreeOf, BeginsListOf}
 use Rattle.tt.proofs.CursorLemmas.{is_tree}
 
 -- a group is in one list
@@ -47,7 +47,7 @@ begins tokens start at p s stands e =
     λ other tree. same tokens at start other (token.Subtree s) (next_in tokens start at p.around p.before p.after s stands e) tree
 
 pub kept : (tokens : List TokenTree) (list : ListAround) (at : ℕ) (p : Place) (s : Subtree) → Stands tokens list.start.count at p
-    → Some (token.Subtree s) ≡ first_token p.after → list.inside.count ≡ at + 1 → IsMarkIn list.start tokens → IsKept tokens list
+    → Some (token.Subtree s) ≡ first_token p.after → list.inside.count ≡ at + 1 → IsPlaceIn list.start tokens → IsKept tokens list
 kept tokens list at p s stands e past marked =
     let n : list.inside.count - 1 ≡ at = omega (arith, past) in
     record { begins = rw n (begins tokens list.start.count at p s stands e); marked = marked }

@@ -1,5 +1,5 @@
 -- How many tokens a builder has, and what follows for the results of calls that add one.
-use Rattle.std.proofs.Common.{◌≡◌, ◌↔◌, ℕ, ◌+◌, ◌<◌, ◌≤◌, length, List, [], ◌∷◌, take, drop, ap, sym, ◌∙◌, arith, Result, Ok, Err, IsErrAnd}
+use Rattle.std.proofs.Common.{◌≡◌, ◌↔◌, ℕ, ◌+◌, ◌<◌, ◌≤◌, length, List, [], ◌∷◌, take, drop, ap, sym, ◌∙◌, arith, Result, Err}
 use Rattle.std.proofs.lemmas.List.{length-drop, length-take}
 use Rattle.tt_data.specs.Forest.{Forest, IsPreorder, forest_of, size}
 use Rattle.tt_data.proofs.ForestLemmas.{size-joined}
@@ -47,11 +47,3 @@ room_left r n other room =
 pub room_for : (r : Result (Unit {0}) TtFault) (n : ℕ) → refused_as_full r ≡ 0 → n ≤ most_tokens → (r ≡ Err fault.Tokens) ↔ (most_tokens < n)
 room_for r n other room =
     (λ e. let no : 0 ≡ 1 = sym other ∙ ap refused_as_full e in omega (arith, no), λ more. absurd (omega (arith, more, room)))
-
--- so too where the call hands on that it lacks memory
-pub no_memory_for : (r : Result (Unit {0}) TtFault) (n : ℕ) → IsErrAnd r (λ e. e ≡ fault.Memory) → n ≤ most_tokens → (r ≡ Err fault.Tokens) ↔ (most_tokens < n)
-no_memory_for r n lacks room = room_for r n (not_full r lacks) room
-  where
-    not_full : (r : Result (Unit {0}) TtFault) → IsErrAnd r (λ e. e ≡ fault.Memory) → refused_as_full r ≡ 0
-    not_full (Ok done) lacks = absurd lacks
-    not_full (Err fault) lacks = ap (λ e. refused_as_full (Err e)) lacks

@@ -3,12 +3,11 @@ use Rattle.std.proofs.Common.{◌≡◌, ◌↔◌, ◌⊎◌, ℕ, ◌+◌, ◌
 use Rattle.std.proofs.lemmas.List.{length-drop, drop-drop, take_rest}
 use Rattle.tt_data.specs.Forest.{Forest, IsPreorder, forest_of, size, front, back}
 use Rattle.tt_data.specs.declared.tree.TokenTree.{TokenTree}
-use Rattle.token_storage.specs.declared.mark.Mark.{Mark}
+use Rattle.token_bytes.specs.declared.mark.Mark.{Mark}
 use Rattle.tt.specs.declared.top_subtree.builder.Opening.{Opening}
 use Rattle.tt.specs.Building.{Point, Opened, count_in, cut_in}
 use Rattle.tt.specs.BuilderTokens.{start_of, here_of, groups_of, IsHeld, IsSettled, IsListAt, IsNoListAt}
-use Rattle.token_storage.specs.Marks.{IsMarkIn}
-use Rattle.token_storage.proofs.MarkLemmas.{IsMarkIn-take}
+use Rattle.token_bytes.specs.Marks.{IsMarkIn}
 use Rattle.tt.proofs.Points.{Ends, ends, ends_there, here_is, here_whole, start_counts, start_fits, restored}
 use Rattle.tt.proofs.Settled.{Behind, behind, end_after, settled_in}
 
@@ -61,14 +60,12 @@ module _ (tokens upto : List TokenTree) (os : List Opening) (p : Point) (most : 
             (from_settled upto l.inside settled.count (p.tokens + 1) l.held (omega (arith, same.1, l.start_is)) (omega (arith, same.2, fits)) (omega (arith, same.2, le)) here)
       ]
 
-  -- it is a mark among the tokens up to the list's end
-  pub from_marked : IsMarkIn settled tokens → IsMarkIn from upto
+  -- it is a mark among the tokens, and not past the list's end
+  pub from_marked : IsMarkIn settled tokens → IsMarkIn from tokens × (from.count ≤ length upto)
   from_marked marked =
       elim one [
-        | inl same ↦
-            let within : start.count ≤ length upto = omega (arith, l.start_is, start_fits upto l.inside l.held) in
-            rw same (rw (sym l.first) at (IsMarkIn-take start (length upto) tokens within l.marked))
-        | inr same ↦ rw same.0 (rw (sym l.first) at (IsMarkIn-take settled (length upto) tokens (omega (arith, same.2, fits)) marked))
+        | inl same ↦ (rw same l.marked, omega (arith, ap (λ (m : Mark). m.count) same, l.start_is, start_fits upto l.inside l.held))
+        | inr same ↦ (rw same.0 marked, omega (arith, ap (λ (m : Mark). m.count) same.0, same.2, fits))
       ]
 
   -- where it is past the point, the list begins past it

@@ -60,10 +60,6 @@ pub start_fits : (tokens : List TokenTree) (os : List Opening) → IsHeld tokens
 start_fits tokens [] held = omega (arith, held.0)
 start_fits tokens (o ∷ outer) held = omega (arith, held.0)
 
-pub held_some : (tokens : List TokenTree) (os : List Opening) → IsHeld tokens os → 0 < length tokens
-held_some tokens [] held = held.0
-held_some tokens (o ∷ outer) held = omega (arith, held.0)
-
 -- what comes before the innermost list: the top's token, and those that its open groups count
 pub start_counts : (tokens : List TokenTree) (os : List Opening) → IsHeld tokens os → start_of os ≡ 1 + count_in (groups_of tokens os)
 start_counts tokens [] held = refl

@@ -15,7 +15,7 @@ use Rattle.tt_data.specs.Spans.{first_span_of}
 use Rattle.tt.specs.Elements.{last_span_of, last_place, first_place}
 use Rattle.tt.specs.FirstTrees.{first_subtree, first_leaf, first_ident, first_literal, first_punct}
 use Rattle.tt.specs.Groups.{group_in, is_one_group}
-use Rattle.token_storage.specs.Records.{as_head, head_in, leaf_in, punct_in, ident_in, literal_in}
+use Rattle.token_bytes.specs.TokenLists.{as_head, head_in, leaf_in, punct_in, ident_in, literal_in}
 use Rattle.tt.specs.Tops.{only_group}
 use Rattle.tt.proofs.GroupLemmas.{one_is}
 use Rattle.tt.proofs.Limits.{size-whole}
@@ -23,10 +23,6 @@ use Rattle.tt.proofs.Limits.{size-whole}
 pub head_is : (t : TokenTree) (s : Subtree) → Some s ≡ as_head t → t ≡ token.Subtree s
 head_is (token.Leaf l) s e = cc
 head_is (token.Subtree r) s e = let same : s ≡ r = cc in ap token.Subtree (sym same)
-
-pub leaf_is : (t : TokenTree) → None ≡ as_head t → (l : Leaf) × (t ≡ token.Leaf l)
-leaf_is (token.Leaf l) e = (l, refl)
-leaf_is (token.Subtree r) e = cc
 
 -- a head that comes first begins the list
 pub head_in-is : (tokens : List TokenTree) (s : Subtree) (more : List TokenTree) → Some (s, more) ≡ head_in tokens → tokens ≡ token.Subtree s ∷ more

@@ -20,7 +20,7 @@ use Rattle.tt_data.specs.declared.leaf.Leaf.{Leaf}
 use Rattle.tt_data.specs.declared.delimiter.Delimiter.{Delimiter}
 use Rattle.tt_data.proofs.ForestLemmas.{forest_of-token_with, map-append, map_spans-map_spans, map_spans-same, preorder-map_spans}
 use Rattle.tt.specs.Anchors.{Tells}
-use Rattle.token_storage.specs.Anchors.{answer_in}
+use Rattle.token_bytes.specs.Anchors.{answer_in}
 use Rattle.tt.specs.Relabelling.{Answers, AnswersBy, anchors_in, anchors_of, anchors_of_brackets, asked_about, by_first_use, met_after, relabelled, renamed, with_anchor}
 use Rattle.tt.specs.Tops.{Top, IsOneGroup, forest_of_top, tokens_of, tree_of}
 use Rattle.tt.proofs.Separators.{answers_next}

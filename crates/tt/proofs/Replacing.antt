@@ -1,5 +1,6 @@
 -- A leaf of a flat list, put in place of another.
 use Rattle.std.proofs.Common.{◌≡◌, ℕ, zero, suc, ◌+◌, ◌-◌, List, [], ◌∷◌, map, set, ap, sym, refl, ◌∙◌, arith, nat_lt, Bool, true, false, if◌then◌else◌}
+use Rattle.std.specs.Prelude.{Some, drop, slice_get}
 use Rattle.std.proofs.lemmas.List.{length-set}
 use Rattle.tt_data.specs.Forest.{Forest, empty, leaf, group, size, front, back, forest_of, IsPreorder}
 use Rattle.tt_data.specs.Flat.{IsPreorder-leaf, parts}
@@ -8,7 +9,7 @@ use Rattle.tt_data.specs.declared.leaf.Leaf.{Leaf}
 use Rattle.tt_data.specs.declared.tree.TokenTree.{TokenTree}
 use Rattle.tt_data.specs.declared.tree.TokenTree.TheVariants as token
 use Rattle.tt.specs.Tops.{IsOneGroup}
-use Rattle.token_storage.specs.Records.{has_leaf_at}
+use Rattle.token_bytes.specs.TokenLists.{has_leaf_at}
 use Rattle.tt.proofs.Groups.{contents_whole, head_whole, one_from, one_counts, group_of}
 
 -- one leaf in place of every leaf
@@ -94,3 +95,11 @@ set_one l zero (token.Subtree s ∷ more) there one = absurd (grind (arith, ther
 set_one l (suc i) (token.Subtree s ∷ more) there one =
     one_from s (set more i (token.Leaf l)) (one_counts s more one ∙ sym (length-set more i (token.Leaf l)))
     (set_whole l i more there (group_of (token.Subtree s ∷ more) one).inside_whole)
+
+-- a token that is there is put in its own place
+pub set_same : (ts : List TokenTree) (at : ℕ) (t : TokenTree) → slice_get (drop at ts) 0 ≡ Some t → set ts at t ≡ ts
+set_same [] at t e = refl
+set_same (x ∷ more) zero t e =
+    let same : x ≡ t = cc e in
+    ap (λ y. y ∷ more) (sym same)
+set_same (x ∷ more) (suc at) t e = ap (λ l. x ∷ l) (set_same more at t e)

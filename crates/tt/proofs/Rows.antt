@@ -1,5 +1,5 @@
 -- Worked examples, by computation: `a(,)b` under construction, and tree by tree.
-use Rattle.std.proofs.Common.{◌≡◌, ℕ, ◌+◌, List, [], ◌∷◌, refl, codes, Some, None, true, false}
+use Rattle.std.proofs.Common.{◌≡◌, ℕ, ◌+◌, List, [], ◌∷◌, length, refl, codes, option_map, Some, None, true, false}
 use Rattle.tt_data.specs.declared.span.Span.{Span}
 use Rattle.tt_data.specs.declared.span.SyntaxContext.TheVariants.{Written}
 use Rattle.tt_data.specs.declared.delimiter.Delimiter.{Delimiter}
@@ -16,8 +16,9 @@ use Rattle.tt_data.specs.Walk.{at_leaf, opens, closes}
 use Rattle.tt.specs.declared.top_subtree.builder.Opening.{Opening}
 use Rattle.tt.specs.declared.iter.TtElement.TheVariants as element
 use Rattle.tt.specs.BuilderTokens.{here_of, groups_of, begins_invisible, moved_back}
-use Rattle.token_storage.specs.Records.{alone_token, has_leaf_at}
-use Rattle.tt.specs.Building.{Building, pushed, opened, closed, extended, leaves, last_alone, Reached, itself, by_open, innermost_group, count_of, most_tokens, point_of, list_in, cut_back, unwrapped_at}
+use Rattle.token_bytes.specs.TokenLists.{alone_token, has_leaf_at}
+use Rattle.token_bytes.specs.Packing.{records, table_after}
+use Rattle.tt.specs.Building.{Building, built, pushed, opened, closed, extended, leaves, last_alone, Reached, itself, by_open, innermost_group, count_of, most_tokens, point_of, list_in, cut_back, unwrapped_at}
 use Rattle.tt.specs.Elements.{elements, first_element, first_place, first_alone, after_first, last_place, IsNext}
 use Rattle.tt.specs.FirstTrees.{first_subtree, first_name, first_literal_leaf, is_among, behind_punct}
 use Rattle.tt.specs.Glued.{first_glued, glued_count}
@@ -115,7 +116,7 @@ unclosed_tokens =
     ∷ []
 
 abbrev openings : List Opening
-openings = record { at = record { count = 2 }; kind = Parenthesis; open_span = at 1 } ∷ []
+openings = record { at = record { count = 2; bytes = 49; texts = 1 }; kind = Parenthesis; open_span = at 1 } ∷ []
 
 held_groups : groups_of unclosed_tokens openings ≡ unclosed.groups
 held_groups = refl
@@ -129,6 +130,30 @@ stands_past_leaves = refl
 
 stands_past_groups : cut_back (point_of unclosed) (closed (pushed (opened unclosed Brace (at 3)) (comma 4)) (at 5)) ≡ Some unclosed
 stands_past_groups = refl
+
+-- so what is built after pushes that were taken back has the bytes and the table of what is built without them
+abbrev bytes_of : Building → List ℕ
+bytes_of b = records [] (tokens_of (built b))
+
+abbrev table_of : Building → List (List ℕ)
+table_of b = table_after [] (tokens_of (built b))
+
+abbrev first_two : Building
+first_two = pushed (pushed start (name (codes "a") 0)) (comma 1)
+
+restored_bytes : option_map bytes_of (cut_back (point_of first_two) (pushed first_two (name (codes "b") 2))) ≡ Some (bytes_of first_two)
+restored_bytes = refl
+
+-- the top, a name and a punct
+bytes_there : length (bytes_of first_two) ≡ 31 + 18 + 18
+bytes_there = refl
+
+restored_table : option_map table_of (cut_back (point_of first_two) (pushed first_two (name (codes "b") 2))) ≡ Some (codes "a" ∷ [])
+restored_table = refl
+
+-- without going back, there would be a text more
+table_before : table_of (pushed first_two (name (codes "b") 2)) ≡ codes "a" ∷ codes "b" ∷ []
+table_before = refl
 
 -- it does not stand once its own group is closed, nor where the group opens only after so many tokens, nor inside a closed group
 falls_with_its_group : cut_back (point_of unclosed) (closed unclosed (at 3)) ≡ None
@@ -179,7 +204,7 @@ begins_third = refl
 leaf_begins_none : begins_invisible (token.Leaf (comma 2)) ≡ false
 leaf_begins_none = refl
 
-moved_after : moved_back 1 (record { at = record { count = 2 }; kind = Brace; open_span = at 1 }) ≡ record { at = record { count = 1 }; kind = Brace; open_span = at 1 }
+moved_after : moved_back 1 (record { at = record { count = 2; bytes = 62; texts = 0 }; kind = Brace; open_span = at 1 }) ≡ record { at = record { count = 1; bytes = 31; texts = 0 }; kind = Brace; open_span = at 1 }
 moved_after = refl
 
 -- trees and leaves in bulk

@@ -9,10 +9,9 @@ use Rattle.tt_data.proofs.ForestLemmas.{joined-front-back, joined_assoc, size-jo
 use Rattle.tt_data.specs.declared.delimiter.Delimiter.{Delimiter}
 use Rattle.tt_data.specs.declared.tree.TokenTree.{TokenTree}
 use Rattle.tt.specs.declared.top_subtree.builder.Opening.{Opening}
-use Rattle.tt.specs.Building.{Opened, count_in, list_in, last_alone, unwrapped, unwrapped_after, unwrapped_in}
+use Rattle.tt.specs.Building.{Opened, count_in, list_in, unwrapped, unwrapped_after, unwrapped_in}
 use Rattle.tt.specs.BuilderTokens.{here_of, groups_of, IsHeld, IsSettled}
 use Rattle.tt.proofs.Held.{here_of-append, groups_of-append, here_of-closed, groups_of-closed, with_head}
-use Rattle.tt.proofs.LastAlone.{size-last_alone, last_alone-joined}
 use Rattle.tt.proofs.Limits.{size-whole, counted}
 use Rattle.tt.proofs.Points.{Cut, cut, taken_whole, start_counts}
 
@@ -56,10 +55,6 @@ behind tokens f known whole shown fits settled =
       back_is = rw rest (sym c.back_is);
     }
 
--- all trees end at the end
-front-all : (f : Forest) → front (size f) f ≡ f
-front-all f = ap (front (size f)) (sym (joined-empty f)) ∙ front-joined f empty
-
 -- a tree ends there too where more trees come after
 end-joined : (n : ℕ) (f g : Forest) → size (front n f) ≡ n → size (front n (joined f g)) ≡ n
 end-joined n f g end =
@@ -69,20 +64,6 @@ end-joined n f g end =
     let same : front n (joined f g) ≡ a =
     ap (λ k. front k (joined f g)) (sym end) ∙ ap (front (size a)) split ∙ front-joined a (joined (back n f) g) in
     ap size same ∙ end
-
--- and where the last token changes
-end-alone : (n : ℕ) (f : Forest) → size (front n f) ≡ n → size (front n (last_alone f)) ≡ n
-end-alone n f end = rw (joined-front-back n f, end) at (first_ends (front n f) (back n f))
-  where
-    first_ends : (a b : Forest) → size (front (size a) (last_alone (joined a b))) ≡ size a
-    first_ends a empty =
-        rw joined-empty (ap (λ k. size (front k (last_alone a))) (sym (size-last_alone a)) ∙ ap size (front-all (last_alone a)) ∙ size-last_alone a)
-    first_ends a (leaf l rest) =
-        ap (λ f. size (front (size a) f)) (last_alone-joined a (leaf l rest) (λ e. absurd (grind (arith, e))))
-        ∙ ap size (front-joined a (last_alone (leaf l rest)))
-    first_ends a (group d inner rest) =
-        ap (λ f. size (front (size a) f)) (last_alone-joined a (group d inner rest) (λ e. absurd (grind (arith, e))))
-        ∙ ap size (front-joined a (last_alone (group d inner rest)))
 
 -- and where a tree after it gives way
 end-unwrapped : (n m : ℕ) (f : Forest) → n ≤ m → size (front n f) ≡ n → size (front n (unwrapped_after m f)) ≡ n
@@ -106,9 +87,6 @@ IsSettled-here at (o ∷ outer) here new kept s =
 
 IsSettled-joined : (at : ℕ) (groups : List Opened) (here g : Forest) → IsSettled at groups here → IsSettled at groups (joined here g)
 IsSettled-joined at groups here g s = IsSettled-here at groups here (joined here g) (λ n end. end-joined n here g end) s
-
-pub IsSettled-alone : (at : ℕ) (groups : List Opened) (here : Forest) → IsSettled at groups here → IsSettled at groups (last_alone here)
-IsSettled-alone at groups here s = IsSettled-here at groups here (last_alone here) (λ n end. end-alone n here end) s
 
 pub IsSettled-append : (at : ℕ) (tokens : List TokenTree) (os : List Opening) (g : Forest) → IsHeld tokens os
     → IsSettled at (groups_of tokens os) (here_of tokens os) → IsSettled at (groups_of (tokens ++ preorder g) os) (here_of (tokens ++ preorder g) os)

@@ -1,12 +1,13 @@
 -- How a builder's tokens hold a tree under construction. The top and open groups have no count yet.
-use Rattle.std.specs.Prelude.{◌≡◌, ℕ, ◌+◌, ◌-◌, ◌<◌, ◌≤◌, ◌⊎◌, List, [], ◌∷◌, length, take, drop, Option, Some, None, Bool, false, IfSome}
+use Rattle.std.specs.Prelude.{◌≡◌, ℕ, ◌+◌, ◌-◌, ◌<◌, ◌≤◌, ◌⊎◌, List, [], ◌∷◌, length, take, drop, Option, Some, None, Bool, true, false, IfSome}
 use Rattle.tt_data.specs.declared.tree.TokenTree.{TokenTree}
 use Rattle.tt_data.specs.declared.tree.TokenTree.TheVariants as token
 use Rattle.tt.specs.declared.top_subtree.builder.Opening.{Opening}
 use Rattle.tt_data.specs.Forest.{Forest, forest_of, IsPreorder, size, front}
-use Rattle.token_storage.specs.declared.mark.Mark.{Mark}
-use Rattle.token_storage.specs.Marks.{mark_of, IsMarkIn, IsHeadIn, without_head}
-use Rattle.tt.specs.Building.{Opened, count_in, is_invisible, list_in}
+use Rattle.token_bytes.specs.declared.mark.Mark.{Mark}
+use Rattle.token_bytes.specs.Marks.{mark_of, IsMarkIn, IsHeadIn, without_head}
+use Rattle.token_bytes.specs.TokenLists.{alone_token}
+use Rattle.tt.specs.Building.{Opened, count_in, is_invisible, last_alone, list_in}
 
 -- how many tokens come before the trees of the innermost list; openings come innermost first
 abbrev pub start_of : List Opening → ℕ
@@ -83,3 +84,14 @@ pub record IsListAt (tokens : List TokenTree) (openings : List Opening) (depth :
 -- there is no such list
 abbrev pub IsNoListAt : List TokenTree → List Opening → ℕ → Type 0
 IsNoListAt tokens openings depth = list_in depth (groups_of tokens openings) (here_of tokens openings) ≡ None
+
+-- tokens, with spacing `Alone` for the last if it is a punct
+abbrev pub with_last_alone : List TokenTree → List TokenTree
+with_last_alone [] = []
+with_last_alone (t ∷ []) = alone_token t ∷ []
+with_last_alone (t ∷ (u ∷ more)) = t ∷ with_last_alone (u ∷ more)
+
+-- the same for trees, where it is said so
+abbrev pub alone_where : Bool → Forest → Forest
+alone_where true f = last_alone f
+alone_where false f = f

@@ -11,7 +11,8 @@ use Rattle.tt_data.specs.contracts.delimiter.DelimiterKind as kind_row
 use Rattle.tt_data.specs.contracts.span.Span as span_row
 use Rattle.tt_data.specs.Forest.{Forest, empty, leaf, group, joined, size, front, back}
 use Rattle.tt_data.specs.Coded.{forest_code}
-pub use Rattle.token_storage.specs.Records.{alone}
+use Rattle.tt.specs.Tops.{Top}
+pub use Rattle.token_bytes.specs.TokenLists.{alone}
 
 -- a group that is still open, with the trees before it in its list
 pub record Opened : Type 0 where
@@ -24,6 +25,10 @@ pub record Building : Type 0 where
   pub top : Delimiter
   pub groups : List Opened
   pub here : Forest
+
+-- the tree that is built where no group is open
+abbrev pub built : Building → Top
+built b = record { delimiter = b.top; inner = b.here }
 
 -- a builder: its tree, and the index of the token of the group closed last (the top's is 0)
 pub record Builder : Type 0 where

@@ -3,9 +3,9 @@ use Rattle.std.specs.Prelude.{◌≡◌, ℕ, ◌+◌, ◌-◌, List, [], ◌∷
 use Rattle.tt_data.specs.declared.tree.TokenTree.{TokenTree}
 use Rattle.tt_data.specs.declared.tree.TokenTree.TheVariants as token
 use Rattle.tt_data.specs.Forest.{Forest, empty, leaf, group, joined, size, preorder, forest_of}
-use Rattle.token_storage.specs.declared.mark.Mark.{Mark}
-use Rattle.token_storage.specs.Lists.{BeginsListOf}
-use Rattle.token_storage.specs.Marks.{IsMarkIn}
+use Rattle.token_bytes.specs.declared.mark.Place.{Place as TokenPlace}
+use Rattle.token_bytes.specs.Lists.{BeginsListOf}
+use Rattle.token_bytes.specs.Marks.{IsPlaceIn}
 use Rattle.tt.specs.Places.{Around, Place}
 use Rattle.tt.specs.declared.buffer.ListAround.{ListAround}
 
@@ -44,16 +44,16 @@ place_in around before (group d inner rest) start at =
 abbrev pub place_of : List TokenTree → ℕ → ℕ → Place
 place_of tokens start at = place_in [] empty (forest_of tokens) start at
 
--- a cursor's marks, of its list's beginning and of its position, are among the tokens
-pub record CursorMarks (tokens : List TokenTree) (start at : Mark) : Type 0 where
-  pub begins : IsMarkIn start tokens
-  pub stands : IsMarkIn at tokens
+-- where a cursor's list begins, and where it stands, are places among the tokens
+pub record CursorPlaces (tokens : List TokenTree) (start at : TokenPlace) : Type 0 where
+  pub begins : IsPlaceIn start tokens
+  pub stands : IsPlaceIn at tokens
 
 -- they do hold a position
 abbrev pub IsPlaced : List TokenTree → ℕ → ℕ → Type 0
 IsPlaced tokens start at = Stands tokens start at (place_of tokens start at)
 
--- the list with the group whose inside begins here begins at this mark, which is one among the tokens
+-- the list with the group whose inside begins here begins at this place, which is one among the tokens
 pub record IsKept (tokens : List TokenTree) (list : ListAround) : Type 0 where
   pub begins : BeginsListOf tokens (list.inside.count - 1) list.start.count
-  pub marked : IsMarkIn list.start tokens
+  pub marked : IsPlaceIn list.start tokens

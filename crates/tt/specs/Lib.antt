@@ -13,8 +13,8 @@ pub mod Rewriting
 pub mod Relabelling
 pub mod Texts
 pub mod TokenLiterals
--- the definitions of `token_storage` that these use
-pub use Rattle.token_storage.specs.Records
+-- the definitions of `token_bytes` that these use
+pub use Rattle.token_bytes.specs.TokenLists
 -- what the functions inside the crate promise each other
 pub mod BuilderTokens
 pub mod Anchors

@@ -1,6 +1,6 @@
 -- The trees of a borrowed list, and of a borrowed group.
 use Rattle.tt_data.specs.Forest.{Forest, forest_of}
-use Rattle.token_storage.specs.Records.{items}
+use Rattle.token_bytes.specs.Items.{items}
 use Rattle.tt.specs.declared.view.SubtreeView.{SubtreeView}
 use Rattle.tt.specs.declared.view.TokenTreesView.{TokenTreesView}
 use Rattle.tt.specs.Groups.{group_in}

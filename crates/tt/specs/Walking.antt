@@ -7,7 +7,7 @@ use Rattle.tt_data.specs.Forest.{Forest, IsPreorder, forest_of}
 use Rattle.tt.specs.declared.top_subtree.transform.Kept.{Kept}
 use Rattle.tt.specs.declared.top_subtree.transform.Walk.{Walk}
 use Rattle.tt.specs.Building.{Building, closed}
-use Rattle.token_storage.specs.Records.{items}
+use Rattle.token_bytes.specs.Items.{items}
 use Rattle.tt.specs.Rewriting.{Call, with_answer}
 
 -- a group around: the span of its closing, and the trees after it in its list

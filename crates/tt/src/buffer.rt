@@ -5,10 +5,10 @@
 //! groups around it.
 ghost use Rattle.arrayvec.specs.ArrayVec.{array_vec_len};
 ghost use Rattle.tt.specs.CursorTokens.{IsKept};
-ghost use Rattle.token_storage.specs.Lists.{BeginsListOf};
-ghost use Rattle.token_storage.specs.Marks.{IsMarkIn};
+ghost use Rattle.token_bytes.specs.Lists.{BeginsListOf};
+ghost use Rattle.token_bytes.specs.Marks.{IsPlaceIn};
 ghost use Rattle.tt.specs.Places.{two_leaves};
-ghost use Rattle.token_storage.specs.Records.{items};
+ghost use Rattle.token_bytes.specs.Items.{items};
 ghost use Rattle.tt.specs.Views.{forest};
 ghost use Rattle.tt_data.specs.declared.tree.TokenTree.{TokenTree};
 ghost use Rattle.std.specs.Prelude.{◌≡◌, ◌≢◌, ⊤, All, IsTrue, ◌↔◌, ◌-◌, ◌<◌, List, [], Some, IsNone};
@@ -17,7 +17,7 @@ use crate::view::TokenTreesView;
 use arrayvec::ArrayVec;
 use std::alloc::AllocError;
 use std::marker::Model;
-use token_storage::{Mark, Tokens};
+use token_bytes::{Place, Tokens};
 use tt_data::{Leaf, Subtree, TokenTree};
 
 /// A position in a list of trees: between two trees of the list, or of a group in it.
@@ -30,20 +30,20 @@ use tt_data::{Leaf, Subtree, TokenTree};
 #[derive(Debug, Drop)]
 pub struct Cursor<'a> {
     tokens: Tokens<'a>,
-    // The mark at which the innermost list begins: the first in no group, else that just after the
+    // The place at which the innermost list begins: the first in no group, else that just after the
     // group's head.
-    start: Mark,
-    at: Mark,
+    start: Place,
+    at: Place,
     // Lists around that one, the nearest last.
     kept: ArrayVec<ListAround, KEPT>,
 }
 
-// A list around: the mark at which it begins, and that just after the head of the group in it that
+// A list around: the place at which it begins, and that just after the head of the group in it that
 // is around too, or that is the innermost one.
 #[derive(Clone, Copy, Debug, Default)]
 struct ListAround {
-    start: Mark,
-    inside: Mark,
+    start: Place,
+    inside: Place,
 }
 
 // How many lists around its own a cursor remembers at most.
@@ -52,8 +52,8 @@ const KEPT: usize = 16;
 impl<'a> Model for Cursor<'a> {
     ghost use Rattle.std.specs.Prelude.{All};
     ghost use Rattle.tt.specs.Places.{Place, place_code};
-    ghost use Rattle.tt.specs.CursorTokens.{place_of, IsKept, IsPlaced, CursorMarks};
-    ghost use Rattle.token_storage.specs.Records.{items};
+    ghost use Rattle.tt.specs.CursorTokens.{place_of, IsKept, IsPlaced, CursorPlaces};
+    ghost use Rattle.token_bytes.specs.Items.{items};
 
     ghost Value = { Place };
 
@@ -63,7 +63,7 @@ impl<'a> Model for Cursor<'a> {
 
     ghost invariant = { λ c. IsPlaced (items c.tokens) c.start.count c.at.count
         × All (IsKept (items c.tokens)) c.kept.items
-        × CursorMarks (items c.tokens) c.start c.at };
+        × CursorPlaces (items c.tokens) c.start c.at };
 }
 
 impl<'a> Clone for Cursor<'a> {
@@ -95,14 +95,14 @@ fn copied(kept: &ArrayVec<ListAround, KEPT>) -> ArrayVec<ListAround, KEPT>
 impl ListAround {
     // Whether the way from its group's inside to `at` is a quarter as long as the list up to there,
     // or longer.
-    fn is_far(self, at: Mark) -> bool {
+    fn is_far(self, at: Place) -> bool {
         let inside = self.inside.count();
         inside.saturating_sub(self.start.count()) / 4 <= at.count().saturating_sub(inside)
     }
 }
 
 // Which list is forgotten before the group with its inside at `at`: the first that is far from it.
-fn forgotten(kept: &ArrayVec<ListAround, KEPT>, at: Mark) -> usize
+fn forgotten(kept: &ArrayVec<ListAround, KEPT>, at: Place) -> usize
     requires { 0 < array_vec_len kept.now }
     ensures { result < array_vec_len kept.now }
 {
@@ -129,12 +129,12 @@ fn keep(kept: &mut ArrayVec<ListAround, KEPT>, list: ListAround)
 
 // The answer of `Tokens::list_around`: that of the last list around, which is no more kept, or else
 // found anew.
-fn next_out(kept: &mut ArrayVec<ListAround, KEPT>, tokens: Tokens<'_>, inside: Mark) -> Mark
-    requires inside { IsMarkIn inside (items tokens) }
+fn next_out(kept: &mut ArrayVec<ListAround, KEPT>, tokens: Tokens<'_>, inside: Place) -> Place
+    requires inside { IsPlaceIn inside (items tokens) }
     requires some { 0 < inside.count }
     requires kept { All (IsKept (items tokens)) kept.old.items }
     ensures begins { BeginsListOf (items tokens.entry) (inside.count - 1) result.count }
-    ensures marked { IsMarkIn result (items tokens.entry) }
+    ensures marked { IsPlaceIn result (items tokens.entry) }
     ensures kept { All (IsKept (items tokens.entry)) kept.new.items }
 {
     let Some(list) = kept.as_slice().last() else {
@@ -167,8 +167,8 @@ impl<'a> Cursor<'a> {
     {
         Cursor {
             tokens: origin.tokens,
-            start: Mark::start(),
-            at: Mark::start(),
+            start: Place::start(),
+            at: Place::start(),
             kept: ArrayVec::new(),
         }
     }

@@ -1,6 +1,6 @@
 //! The tokens of a list of trees, one by one.
 use std::marker::Model;
-use token_storage::Tokens;
+use token_bytes::Tokens;
 use tt_data::TokenTree;
 
 /// A walk over all tokens of a list of trees: a group's head before the tokens inside.
@@ -11,7 +11,7 @@ pub struct FlatTokens<'a> {
 
 impl<'a> Model for FlatTokens<'a> {
     ghost use Rattle.std.specs.Prelude.{List, ◌<◌, ◌^◌, length};
-    ghost use Rattle.token_storage.specs.Records.{items};
+    ghost use Rattle.token_bytes.specs.Items.{items};
     ghost use Rattle.tt_data.specs.declared.tree.TokenTree.{TokenTree};
 
     ghost Value = { List TokenTree };

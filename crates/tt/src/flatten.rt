@@ -1,7 +1,7 @@
 //! Checks flat lists of tokens: whether one holds a list of trees, and where its trees end.
 ghost use Rattle.std.specs.Prelude.{◌≡◌, ◌↔◌, ◌≤◌, ◌^◌, length, IsTrue};
 ghost use Rattle.tt_data.specs.Forest.{size, front, forest_of, IsPreorder};
-ghost use Rattle.token_storage.specs.Records.{inside_of};
+ghost use Rattle.token_bytes.specs.TokenLists.{inside_of};
 ghost use Rattle.tt.specs.Tops.{IsOneGroup};
 
 use crate::iter::{TtElement, TtIter};

@@ -13,7 +13,7 @@ use crate::view::{SubtreeView, TokenTreesView};
 pub use savepoint::TtIterSavepoint;
 use std::alloc::AllocError;
 use std::marker::Model;
-use token_storage::{Tokens, same_leaf};
+use token_bytes::Tokens;
 use tt_data::{Leaf, Span, Subtree, TokenTree};
 
 /// A walk over a list of trees, group by group as one tree. Contracts see it as the trees that are
@@ -26,7 +26,7 @@ pub struct TtIter<'a> {
 impl<'a> Model for TtIter<'a> {
     ghost use Rattle.tt_data.specs.Coded.{forest_code};
     ghost use Rattle.tt_data.specs.Forest.{Forest, forest_of, IsPreorder};
-    ghost use Rattle.token_storage.specs.Records.{items};
+    ghost use Rattle.token_bytes.specs.Items.{items};
 
     ghost Value = { Forest };
 
@@ -57,6 +57,16 @@ impl<'a> TtElement<'a> {
             TtElement::Subtree(subtree, _) => subtree.delimiter.open_span,
         }
     }
+}
+
+// A clone of a leaf. Its text gets one more owner, so memory is never refused.
+fn same_leaf(leaf: &Leaf) -> Leaf
+    ensures { result ≡ leaf.now }
+{
+    let Ok(leaf) = leaf.clone() else {
+        unreachable!()
+    };
+    leaf
 }
 
 impl<'a> Clone for TtElement<'a> {

@@ -1,6 +1,9 @@
 //! Whole trees: one group with all inside it.
 ghost use Rattle.std.specs.Prelude.{◌≡◌, ◌↔◌, ◌⊎◌, ◌<◌, Err, IfOk, IfErr, IsOkUnless, OnOk, OnErr, false};
+ghost use Rattle.std.specs.Prelude.{IsTrue, length, set};
+ghost use Rattle.tt_data.specs.declared.tree.TokenTree.TheVariants as token;
 ghost use Rattle.tt_data.specs.fault.TtFault.TheVariants as fault;
+ghost use Rattle.token_bytes.specs.Items.{items};
 
 pub(crate) mod builder;
 mod relabel;
@@ -12,8 +15,10 @@ use crate::view::{SubtreeView, TokenTreesView};
 use std::alloc::Global;
 use std::hash::{Hash, Hasher};
 use std::marker::Model;
-use token_storage::{Mark, TokenBuffer};
-use tt_data::{DelimSpan, Delimiter, DelimiterKind, Leaf, Span, Subtree, TokenTree, TtFault};
+use token_bytes::{Mark, TokenBuffer, Tokens};
+use tt_data::{
+    DelimSpan, Delimiter, DelimiterKind, Leaf, Span, Subtree, Symbol, TokenTree, TtFault,
+};
 
 /// A whole tree: one group, and the trees inside it.
 #[derive(Debug, Drop)]
@@ -35,14 +40,26 @@ impl Model for TopSubtree {
     ghost invariant = { λ t. IsOneGroup t.tokens × (length t.tokens ≤ 2 ^ 32) };
 }
 
+// Whether this leaf is at an index.
+fn has_leaf(tokens: Tokens<'_>, at: usize, leaf: &Leaf) -> bool
+    requires { at < length (items tokens) }
+    ensures { IsTrue result →
+        set (items tokens.entry) at (token.Leaf leaf.now) ≡ items tokens.entry }
+{
+    match tokens.split_at(at).1.first() {
+        Some(TokenTree::Leaf(there)) => there == *leaf,
+        _ => false,
+    }
+}
+
 impl TopSubtree {
     ghost use Rattle.tt_data.specs.Forest.{size, empty};
-    ghost use Rattle.std.specs.Prelude.{set, length};
+    ghost use Rattle.std.specs.Prelude.{[]};
+    ghost use Rattle.token_bytes.specs.Packing.{records, table_after};
     ghost use Rattle.tt_data.specs.declared.delimiter.DelimiterKind.TheVariants.{Invisible};
-    ghost use Rattle.tt_data.specs.declared.tree.TokenTree.TheVariants as token;
     ghost use Rattle.tt.specs.Building.{most_tokens, leaves as leaves_of};
     ghost use Rattle.tt.specs.Tops.{Top, head_of, forest_of_top, tokens_of, no_brackets};
-    ghost use Rattle.token_storage.specs.Records.{has_leaf_at};
+    ghost use Rattle.token_bytes.specs.TokenLists.{has_leaf_at};
     ghost use Rattle.tt.specs.Views.{forest, top_of};
 
     /// The tree with invisible delimiters at the spans of `span`, and nothing inside.
@@ -195,6 +212,10 @@ impl TopSubtree {
         if !self.tokens.tokens().is_leaf_at(idx) {
             return Err(TtFault::Place);
         }
+        // To replace a leaf takes time for all tokens.
+        if has_leaf(self.tokens.tokens(), idx, &leaf) {
+            return Ok(());
+        }
         self.tokens.set_leaf(idx, leaf)?;
         Ok(())
     }
@@ -220,6 +241,22 @@ impl TopSubtree {
         ensures { result ≡ self.now.inner }
     {
         self.token_trees().iter()
+    }
+
+    /// The tree as bytes: the records of its tokens, a group's before those inside. A record has 31
+    /// bytes for a group, 18 for a punct or an identifier, 23 for a literal.
+    pub fn bytes(&self) -> &[u8]
+        ensures { result.now ≡ records [] (tokens_of self.now) }
+    {
+        self.tokens.bytes()
+    }
+
+    /// The table of the tree's texts, which the records number: each once, in the order of first
+    /// use.
+    pub fn texts(&self) -> &[Symbol]
+        ensures { result.now ≡ table_after [] (tokens_of self.now) }
+    {
+        self.tokens.texts()
     }
 
     /// The head of the group: its delimiters, and how many tokens are inside.
@@ -258,16 +295,19 @@ impl Eq for TopSubtree {
     ghost laws = { on_equiv tokens_of (lists_equiv token_laws.laws-law) };
 }
 
+// What is fed is the tree's bytes as a whole, and then each text of its table.
 impl Hash for TopSubtree {
-    ghost use Rattle.std.specs.Hash as fed;
-    ghost use Rattle.std.specs.Hash.{on_Alike, items_Alike};
-    ghost use Rattle.std.specs.Cmp.Rules.{hashing};
-    ghost use Rattle.std.proofs.Common.{rules};
+    ghost use Rattle.std.specs.Prelude.{[], ◌∷◌};
+    ghost use Rattle.std.specs.Cmp.Lexicographic.{pointwise_decides};
+    ghost use Rattle.std.proofs.Common.{ap};
+    ghost use Rattle.token_bytes.specs.Packing.{records, table_after};
+    ghost use Rattle.tt_data.proofs.EqualityLemmas.{tokens as token_decides};
     ghost use Rattle.tt.specs.Tops.{tokens_of};
 
-    ghost hash_input = { λ t. fed.slice ⟦<TokenTree as Hash>⟧.hash_input (tokens_of t) };
+    ghost hash_input = { λ t. records [] (tokens_of t) ∷ table_after [] (tokens_of t) };
 
-    ghost respects_eq = { (on_Alike tokens_of (items_Alike {E = ⟦<TokenTree as PartialEq>⟧.eq} {F = ⟦<TokenTree as Hash>⟧.hash_input} (record { fed = Prim.search (hashing, rules) }))).fed };
+    ghost respects_eq = { λ a b same. ap (λ ts. records [] ts ∷ table_after [] ts)
+        ((pointwise_decides token_decides (tokens_of a) (tokens_of b)).0 same) };
 
     fn hash<H: Hasher>(&self, state: &mut H) {
         self.tokens.feed(state);

@@ -1,11 +1,11 @@
 //! Borrowed lists of trees.
 ghost use Rattle.std.specs.Prelude.{◌≡◌, IsSome, IsTrue, ◌↔◌, true, ◌<◌, ◌^◌};
 ghost use Rattle.tt_data.specs.Forest.{IsPreorder, forest_of};
-ghost use Rattle.token_storage.specs.Records.{items};
+ghost use Rattle.token_bytes.specs.Items.{items};
 ghost use Rattle.tt.specs.Groups.{is_one_group};
 
 use crate::flat::FlatTokens;
-use token_storage::Tokens;
+use token_bytes::Tokens;
 use tt_data::{DelimiterKind, Span, Subtree, TokenTree};
 
 /// A borrowed list of trees.

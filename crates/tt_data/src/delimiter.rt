@@ -65,7 +65,8 @@ impl Delimiter {
 
     /// Invisible delimiters at these two spans.
     pub fn invisible_delim_spanned(span: DelimSpan) -> Delimiter
-        ensures { result ≡ record { open_span = span.open_span; close_span = span.close_span; kind = Invisible } }
+        ensures { result ≡ record
+            { open_span = span.open_span; close_span = span.close_span; kind = Invisible } }
     {
         Delimiter {
             open_span: span.open_span,
@@ -76,7 +77,8 @@ impl Delimiter {
 
     /// The spans of the two delimiters.
     pub fn delim_span(&self) -> DelimSpan
-        ensures { result ≡ record { open_span = self.now.open_span; close_span = self.now.close_span } }
+        ensures { result ≡ record
+            { open_span = self.now.open_span; close_span = self.now.close_span } }
     {
         DelimSpan {
             open_span: self.open_span,

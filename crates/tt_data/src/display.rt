@@ -97,7 +97,8 @@ impl fmt::Display for LiteralRef<'_> {
 
 // Writes what comes before the text of a literal of this form.
 fn write_opening<W: fmt::Write>(kind: LitKind, f: &mut fmt::Formatter<W>) -> fmt::Result
-    ensures { WritesOnOk W.write_str_gives f.old result (form_letters kind ++ form_hashes kind ++ form_quote kind) f.new }
+    ensures { WritesOnOk W.write_str_gives f.old result
+        (form_letters kind ++ form_hashes kind ++ form_quote kind) f.new }
 {
     f.write_str(letters(kind))?;
     write_hashes(hash_count(kind), f)?;
@@ -106,7 +107,8 @@ fn write_opening<W: fmt::Write>(kind: LitKind, f: &mut fmt::Formatter<W>) -> fmt
 
 // Writes what comes after the text of a literal of this form.
 fn write_closing<W: fmt::Write>(kind: LitKind, f: &mut fmt::Formatter<W>) -> fmt::Result
-    ensures { WritesOnOk W.write_str_gives f.old result (form_quote kind ++ form_hashes kind) f.new }
+    ensures { WritesOnOk W.write_str_gives f.old result (form_quote kind ++ form_hashes kind)
+        f.new }
 {
     f.write_str(quote(kind))?;
     write_hashes(hash_count(kind), f)

@@ -2,7 +2,8 @@
 //! the statement.
 ghost use Rattle.std.specs.Prelude.{◌≡◌, ◌↔◌, true, ℕ, ◌+◌, List, ◌∷◌, ◌++◌, length, map};
 ghost use Rattle.tt_data.specs.Flat.{Parts};
-ghost use Rattle.tt_data.specs.Forest.{Forest, empty, group, joined, size, preorder, front, back, forest_of, head_of, IsPreorder, map_spans, shape};
+ghost use Rattle.tt_data.specs.Forest.{Forest, empty, group, joined, size, preorder, front, back};
+ghost use Rattle.tt_data.specs.Forest.{forest_of, head_of, IsPreorder, map_spans, shape};
 ghost use Rattle.tt_data.specs.Spans.{token_with, no_span};
 ghost use Rattle.tt_data.specs.Walk.{walk, step_with};
 ghost use Rattle.tt_data.specs.declared.delimiter.Delimiter.{Delimiter};
@@ -38,16 +39,21 @@ pub fn tokens_of_a_forest()
 /// after the head of a group are first those of the trees inside, as many as it counts, and then
 /// the others.
 pub fn flat_lists_taken_apart()
-    ensures after_leaf { (l : Leaf) (more : List TokenTree) → IsPreorder (token.Leaf l ∷ more) → IsPreorder more }
-    ensures after_head { (s : Subtree) (more : List TokenTree) → IsPreorder (token.Subtree s ∷ more) → Parts s more }
+    ensures after_leaf { (l : Leaf) (more : List TokenTree) → IsPreorder (token.Leaf l ∷ more) →
+        IsPreorder more }
+    ensures after_head { (s : Subtree) (more : List TokenTree) →
+        IsPreorder (token.Subtree s ∷ more) → Parts s more }
 {}
 
 /// Flat lists of forests make further ones: a leaf before one, one list after another, and the
 /// head of a group that counts the tokens of the first of two lists.
 pub fn flat_lists_put_together()
-    ensures leaf_before { (l : Leaf) (more : List TokenTree) → IsPreorder more → IsPreorder (token.Leaf l ∷ more) }
-    ensures appended { (a b : List TokenTree) → IsPreorder a → forest_of (a ++ b) ≡ joined (forest_of a) (forest_of b) }
-    ensures appended_whole { (a b : List TokenTree) → IsPreorder a → IsPreorder b → IsPreorder (a ++ b) }
+    ensures leaf_before { (l : Leaf) (more : List TokenTree) → IsPreorder more →
+        IsPreorder (token.Leaf l ∷ more) }
+    ensures appended { (a b : List TokenTree) → IsPreorder a →
+        forest_of (a ++ b) ≡ joined (forest_of a) (forest_of b) }
+    ensures appended_whole { (a b : List TokenTree) → IsPreorder a → IsPreorder b →
+        IsPreorder (a ++ b) }
     ensures grouped { (d : Delimiter) (a b : List TokenTree) → IsPreorder a →
         forest_of (head_of d (length a) ∷ a ++ b) ≡ group d (forest_of a) (forest_of b) }
     ensures grouped_whole { (d : Delimiter) (a b : List TokenTree) → IsPreorder a → IsPreorder b →
@@ -62,7 +68,8 @@ pub fn forests_joined()
     ensures counted { (f g : Forest) → size (joined f g) ≡ size f + size g }
     ensures tokens { (f g : Forest) → preorder (joined f g) ≡ preorder f ++ preorder g }
     ensures steps { (f g : Forest) → walk (joined f g) ≡ walk f ++ walk g }
-    ensures followed { (f : Forest) (more : List TokenTree) → forest_of (preorder f ++ more) ≡ joined f (forest_of more) }
+    ensures followed { (f : Forest) (more : List TokenTree) →
+        forest_of (preorder f ++ more) ≡ joined f (forest_of more) }
 {}
 
 /// A forest cut in two gives its parts back.
@@ -80,14 +87,20 @@ pub fn walk_of_a_forest()
 /// A span map changes no tree, size or shape. It changes the span of each token and of each step
 /// of the walk, and two maps in turn are one.
 pub fn spans_mapped()
-    ensures joining { (m : Span → Span) (f g : Forest) → map_spans m (joined f g) ≡ joined (map_spans m f) (map_spans m g) }
+    ensures joining { (m : Span → Span) (f g : Forest) →
+        map_spans m (joined f g) ≡ joined (map_spans m f) (map_spans m g) }
     ensures counted { (m : Span → Span) (f : Forest) → size (map_spans m f) ≡ size f }
-    ensures tokens { (m : Span → Span) (f : Forest) → preorder (map_spans m f) ≡ map (token_with m) (preorder f) }
-    ensures steps { (m : Span → Span) (f : Forest) → walk (map_spans m f) ≡ map (step_with m) (walk f) }
-    ensures twice { (m n : Span → Span) (f : Forest) → map_spans m (map_spans n f) ≡ map_spans (λ s. m (n s)) f }
+    ensures tokens { (m : Span → Span) (f : Forest) →
+        preorder (map_spans m f) ≡ map (token_with m) (preorder f) }
+    ensures steps { (m : Span → Span) (f : Forest) →
+        walk (map_spans m f) ≡ map (step_with m) (walk f) }
+    ensures twice { (m n : Span → Span) (f : Forest) →
+        map_spans m (map_spans n f) ≡ map_spans (λ s. m (n s)) f }
     ensures same { (f : Forest) → map_spans (λ s. s) f ≡ f }
-    ensures flat { (m : Span → Span) (ts : List TokenTree) → forest_of (map (token_with m) ts) ≡ map_spans m (forest_of ts) }
-    ensures flat_whole { (m : Span → Span) (ts : List TokenTree) → IsPreorder ts → IsPreorder (map (token_with m) ts) }
+    ensures flat { (m : Span → Span) (ts : List TokenTree) →
+        forest_of (map (token_with m) ts) ≡ map_spans m (forest_of ts) }
+    ensures flat_whole { (m : Span → Span) (ts : List TokenTree) → IsPreorder ts →
+        IsPreorder (map (token_with m) ts) }
     ensures shapes { (m : Span → Span) (f : Forest) → shape (map_spans m f) ≡ shape f }
 {}
 
@@ -108,9 +121,12 @@ pub fn equal_tokens()
 /// By `Default` a span is 0..0 with anchor 0 and context `Written`, and a punct is U+0000,
 /// `Alone`, there.
 pub fn defaults()
-    ensures ranges { (r : TextRange) → ⟦<TextRange as Default>⟧.is_default r → r ≡ record { start = 0; «end» = 0 } }
-    ensures contexts { (c : SyntaxContext) → ⟦<SyntaxContext as Default>⟧.is_default c → c ≡ Written }
+    ensures ranges { (r : TextRange) → ⟦<TextRange as Default>⟧.is_default r →
+        r ≡ record { start = 0; «end» = 0 } }
+    ensures contexts { (c : SyntaxContext) → ⟦<SyntaxContext as Default>⟧.is_default c →
+        c ≡ Written }
     ensures spans { (s : Span) → ⟦<Span as Default>⟧.is_default s → s ≡ no_span }
     ensures spacings { (s : Spacing) → ⟦<Spacing as Default>⟧.is_default s → s ≡ Alone }
-    ensures puncts { (p : Punct) → ⟦<Punct as Default>⟧.is_default p → p ≡ record { char = 0; spacing = Alone; span = no_span } }
+    ensures puncts { (p : Punct) → ⟦<Punct as Default>⟧.is_default p →
+        p ≡ record { char = 0; spacing = Alone; span = no_span } }
 {}

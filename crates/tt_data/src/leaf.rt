@@ -1,5 +1,6 @@
 //! The leaves of token trees: literals, puncts and identifiers.
-ghost use Rattle.std.specs.Prelude.{◌≡◌, ◌^◌, ◌<◌, ◌-◌, ◌++◌, ◌↔◌, ⊤, [], length, take, drop, IfOk, IsOkUnless, IsTrue, SomeIff};
+ghost use Rattle.std.specs.Prelude.{◌≡◌, ◌^◌, ◌<◌, ◌-◌, ◌++◌, ◌↔◌, ⊤, [], length, take, drop, IfOk};
+ghost use Rattle.std.specs.Prelude.{IsOkUnless, IsTrue, SomeIff};
 ghost use Rattle.std.specs.Str.{IsCharBoundary};
 ghost use Rattle.tt_data.specs.Literals.{HasSuffix, literal_in, literal_of};
 ghost use Rattle.tt_data.specs.Names.{prefix_of, rawness, bare_name, ident_of};
@@ -203,7 +204,8 @@ impl Literal {
         suffix: &str,
     ) -> Result<Literal, TtFault>
         requires suffix_fits { length suffix.now < 2 ^ 32 }
-        ensures literal { IfOk result (λ l. l ≡ record { text = text.now; suffix = suffix.now; kind = kind; span = span }) }
+        ensures literal { IfOk result (λ l. l
+            ≡ record { text = text.now; suffix = suffix.now; kind = kind; span = span }) }
         ensures memory { IsOkUnless result fault.Memory }
     {
         if suffix.is_empty() {
@@ -230,7 +232,8 @@ impl Literal {
         span: Span,
         kind: LitKind,
     ) -> Result<Literal, TtFault>
-        ensures literal { IfOk result (λ l. l ≡ record { text = text.now; suffix = []; kind = kind; span = span }) }
+        ensures literal { IfOk result (λ l. l
+            ≡ record { text = text.now; suffix = []; kind = kind; span = span }) }
         ensures memory { IsOkUnless result fault.Memory }
     {
         Ok(Literal {

@@ -1,5 +1,6 @@
 //! Each call that takes no memory, once. Its result is proved, so a value or two are tested here.
 use crate::samples::{begun, built, byte_at, punct, put_all, shows, tells, tree};
+use crate::stored::are_built_alike;
 use crate::walks::{count_leaves, passed, rebuilt};
 use std::alloc::Global;
 use std::hash::{DefaultHasher, Hash, Hasher};
@@ -173,5 +174,11 @@ fn tell_places(alloc: Global, tree: &TopSubtree) -> Result<bool, TtFault> {
 fn tell_what_is_inside(rt: HostRuntime) -> Result<(), Fail> {
     let tree = tree(rt.alloc(), "+")?;
     assert!(rt; tell_views(rt.alloc(), &tree)? && tell_places(rt.alloc(), &tree)?);
+    Ok(())
+}
+
+#[test]
+fn of_bytes(rt: HostRuntime) -> Result<(), Fail> {
+    assert!(rt; are_built_alike(rt.alloc())?);
     Ok(())
 }

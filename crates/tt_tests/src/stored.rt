@@ -1,9 +1,10 @@
 //! Tokens as bytes and a table of texts: each call that takes memory, made once more if it was
 //! refused.
-use crate::samples::{byte_at, punct};
+use crate::samples::{begun, built, byte_at, punct, put_all};
 use std::alloc::Global;
 use std::hash::{DefaultHasher, Hasher};
 use token_bytes::TokenBuffer;
+use tt::TopSubtree;
 use tt_data::{Ident, Leaf, LitKind, Literal, TokenTree, TtFault};
 
 // More tokens than any list here has.
@@ -101,6 +102,33 @@ fn is_replaced(alloc: Global) -> Result<bool, TtFault> {
         buffer.set_leaf(0, leaf(alloc, 'b', 0)?)?;
     }
     Ok(buffer.is_equal(&stored(alloc, "bb;")?))
+}
+
+// The tree of a name, a literal and a punct. Where there is a detour, a name and a group came after
+// the first, and were taken back.
+fn written(alloc: Global, has_detour: bool) -> Result<TopSubtree, TtFault> {
+    let mut builder = begun(alloc, "")?;
+    builder.push(leaf(alloc, 'a', 1)?)?;
+    if has_detour {
+        let point = builder.restore_point();
+        builder.push(leaf(alloc, 'b', 2)?)?;
+        put_all(&mut builder, "{-}", 3)?;
+        builder.restore(point)?;
+    }
+    builder.push(leaf(alloc, '1', 6)?)?;
+    builder.push(leaf(alloc, ';', 7)?)?;
+    built(builder)
+}
+
+/// Whether a tree has the bytes of its tokens, and one that was built with a detour the same.
+pub(crate) fn are_built_alike(alloc: Global) -> Result<bool, TtFault> {
+    let (one, two) = (written(alloc, false)?, written(alloc, true)?);
+    Ok(
+        one.bytes().len() == 31 + 18 + 23 + 18
+            && one.texts().len() == 2
+            && one.bytes() == two.bytes()
+            && one.texts() == two.texts(),
+    )
 }
 
 fn hash_of(buffer: &TokenBuffer) -> u64 {

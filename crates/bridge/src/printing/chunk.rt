@@ -83,7 +83,8 @@ pub(crate) fn append_at(
     chunk: &PrintedChunk,
     spans: &[Span],
 ) -> Result<(), TtFault>
-    ensures puts { OnOk result (state_of out.new ≡ chunk_behind (state_of out.old) chunk.now spans.now) }
+    ensures puts { OnOk result (state_of out.new
+        ≡ chunk_behind (state_of out.old) chunk.now spans.now) }
     ensures grows { Grows (state_of out.old) (state_of out.new) }
     ensures memory { IsOkUnless result Memory }
 {
@@ -101,7 +102,8 @@ pub(crate) fn append_shifted(
     chunk: &PrintedChunk,
     shift: Shift,
 ) -> Result<bool, TtFault>
-    ensures puts { IfOk result (AppendsChunk (state_of out.old) (state_of out.new) chunk.now (map (shifted shift) chunk.now.tokens)) }
+    ensures puts { IfOk result (AppendsChunk (state_of out.old) (state_of out.new) chunk.now
+        (map (shifted shift) chunk.now.tokens)) }
     ensures depth { out.new.depth ≡ out.old.depth }
     ensures grows { Grows (state_of out.old) (state_of out.new) }
     ensures memory { IsOkUnless result Memory }

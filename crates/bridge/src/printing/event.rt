@@ -49,7 +49,8 @@ pub(crate) fn events_of<'a>(alloc: Global, view: TokenTreesView<'a>) -> Events<'
 
 // Enters a group, which has these trees inside.
 fn enter<'a>(left: &mut Events<'a>, group: Delimiter, inner: TtIter<'a>) -> Result<(), TtFault>
-    ensures ok { OnOk result (steps_left left.new ≡ walk inner.entry ++ (closes group.kind group.close_span ∷ steps_left left.old)) }
+    ensures ok { OnOk result (steps_left left.new ≡ walk inner.entry
+        ++ (closes group.kind group.close_span ∷ steps_left left.old)) }
     ensures memory { IsOkUnless result Memory }
 {
     let rest = replace(&mut left.here, inner);

@@ -1,9 +1,11 @@
 //! The fast path of spelling: leaves whose kind and text alone show how they are spelled, so that
 //! nothing is lexed. It decides speed alone.
-ghost use Rattle.std.specs.Prelude.{◌≡◌, ◌↔◌, ◌<◌, ◌^◌, true, IfSome, IsTrue, Some, length, option_map};
+ghost use Rattle.std.specs.Prelude.{◌≡◌, ◌↔◌, ◌<◌, ◌^◌, true, IfSome, IsTrue, Some, length};
+ghost use Rattle.std.specs.Prelude.{option_map};
 ghost use Rattle.std.specs.List.{list_all};
 ghost use Rattle.bridge.specs.FastSpellings.{is_mark_char, is_plain_byte};
-ghost use Rattle.bridge.specs.Spelling.{behind_mark, is_root_text, is_text_of, leaf_spelling, root_name};
+ghost use Rattle.bridge.specs.Spelling.{behind_mark, is_root_text, is_text_of, leaf_spelling};
+ghost use Rattle.bridge.specs.Spelling.{root_name};
 ghost use Rattle.rustc_lexer.specs.Character.{is_digit};
 ghost use Rattle.tt_data.specs.Displayed.{displayed_leaf};
 ghost use Rattle.tt_data.specs.Lent.{ident_lent, leaf_lent, literal_lent};
@@ -37,7 +39,8 @@ pub(crate) fn is_mark(char: char) -> bool
 
 // The name, if it is an identifier that is not raw.
 fn name_text<'a>(ident: IdentRef<'a>) -> Option<&'a str>
-    ensures { IfSome result (λ t. leaf_spelling (as_leaf.Ident (ident_lent ident.entry)) ≡ Some t.now) }
+    ensures { IfSome result (λ t. leaf_spelling (as_leaf.Ident (ident_lent ident.entry))
+        ≡ Some t.now) }
 {
     laws::token_lengths();
     laws::one_identifier();
@@ -52,7 +55,8 @@ fn name_text<'a>(ident: IdentRef<'a>) -> Option<&'a str>
 /// The name, if it is an identifier of ASCII characters that is not raw.
 #[inline(always)]
 pub(crate) fn ascii_name<'a>(ident: IdentRef<'a>) -> Option<&'a str>
-    ensures { IfSome result (λ t. leaf_spelling (as_leaf.Ident (ident_lent ident.entry)) ≡ Some t.now) }
+    ensures { IfSome result (λ t. leaf_spelling (as_leaf.Ident (ident_lent ident.entry))
+        ≡ Some t.now) }
 {
     laws::token_lengths();
     laws::one_identifier();
@@ -100,7 +104,8 @@ pub(crate) fn root_name<'a>(ident: IdentRef<'a>) -> Option<&'a str>
 
 // The name of the crate whose root the identifier stands for, if that is an identifier.
 fn root_text<'a>(ident: IdentRef<'a>) -> Option<&'a str>
-    ensures { IfSome result (λ t. leaf_spelling (as_leaf.Ident (ident_lent ident.entry)) ≡ Some t.now) }
+    ensures { IfSome result (λ t. leaf_spelling (as_leaf.Ident (ident_lent ident.entry))
+        ≡ Some t.now) }
 {
     laws::token_lengths();
     laws::one_identifier();
@@ -115,7 +120,8 @@ fn root_text<'a>(ident: IdentRef<'a>) -> Option<&'a str>
 /// The spelling of an identifier that is not raw: its name, or that of the crate whose root it
 /// stands for.
 pub(crate) fn ident_text<'a>(ident: IdentRef<'a>) -> Option<&'a str>
-    ensures { IfSome result (λ t. leaf_spelling (as_leaf.Ident (ident_lent ident.entry)) ≡ Some t.now) }
+    ensures { IfSome result (λ t. leaf_spelling (as_leaf.Ident (ident_lent ident.entry))
+        ≡ Some t.now) }
 {
     match name_text(ident) {
         Some(name) => Some(name),
@@ -137,7 +143,8 @@ fn has_digits_alone(text: &str) -> bool
 
 /// The text of a number that is only digits, without a suffix.
 pub(crate) fn number_text<'a>(literal: LiteralRef<'a>) -> Option<&'a str>
-    ensures { IfSome result (λ t. leaf_spelling (as_leaf.Literal (literal_lent literal.entry)) ≡ Some t.now) }
+    ensures { IfSome result (λ t. leaf_spelling (as_leaf.Literal (literal_lent literal.entry))
+        ≡ Some t.now) }
 {
     laws::token_lengths();
     laws::one_number();
@@ -168,7 +175,8 @@ fn stands_for_itself(text: &str) -> bool
 
 /// Whether the literal is a string whose displayed text is clearly one token.
 pub(crate) fn is_plain_string(literal: LiteralRef<'_>) -> bool
-    ensures { IsTrue result → is_text_of (as_leaf.Literal (literal_lent literal.entry)) (displayed_leaf (as_leaf.Literal (literal_lent literal.entry))) ≡ true }
+    ensures { IsTrue result → is_text_of (as_leaf.Literal (literal_lent literal.entry))
+        (displayed_leaf (as_leaf.Literal (literal_lent literal.entry))) ≡ true }
 {
     laws::token_lengths();
     laws::one_string();

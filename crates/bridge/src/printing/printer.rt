@@ -1,5 +1,6 @@
 //! The printer: lists of trees and token events as one text that reads back.
-ghost use Rattle.std.specs.Prelude.{◌≡◌, ◌<◌, ◌^◌, ◌++◌, ◌∷◌, [], List, OnOk, OnErr, IfOk, IfErr, IfSome, IsOkUnless, is_some, length, map, string_bytes};
+ghost use Rattle.std.specs.Prelude.{◌≡◌, ◌<◌, ◌^◌, ◌++◌, ◌∷◌, [], List, OnOk, OnErr, IfOk, IfErr};
+ghost use Rattle.std.specs.Prelude.{IfSome, IsOkUnless, is_some, length, map, string_bytes};
 ghost use Rattle.bridge.specs.PrintStates.{Fits, Grows, PutsAny, state_of};
 ghost use Rattle.bridge.specs.PrintedTrees.{print_in};
 ghost use Rattle.bridge.specs.PrintedRanges.{printed_ranges, read_ranges};
@@ -42,7 +43,8 @@ impl Printed {
     pub fn token_ranges(&self) -> TokenRanges<'_>
         requires { length (string_bytes self.now.text) < 2 ^ 32 }
         ensures read { result ≡ read_ranges (string_bytes self.now.text) }
-        ensures exact { (steps : List Step) → string_bytes self.now.text ≡ (print_of steps).text → result ≡ printed_ranges (printed (visible steps)) }
+        ensures exact { (steps : List Step) → string_bytes self.now.text ≡ (print_of steps).text →
+            result ≡ printed_ranges (printed (visible steps)) }
     {
         tokens_are_where_they_are_printed();
         token_ranges(self.text.as_str())
@@ -139,7 +141,8 @@ impl Printer {
 
     /// Appends these trees. A quote that is last waits for the next call.
     pub fn put(&mut self, view: TokenTreesView<'_>) -> Result<(), TtFault>
-        ensures ok { OnOk result ((steps : List Step) → HasPut self.old steps → HasPut self.new (steps ++ walk (forest view.entry))) }
+        ensures ok { OnOk result ((steps : List Step) → HasPut self.old steps →
+            HasPut self.new (steps ++ walk (forest view.entry))) }
         ensures err { OnErr result (self.new ≡ self.old) }
         ensures memory { IsOkUnless result Memory }
     {
@@ -153,7 +156,8 @@ impl Printer {
 
     /// Appends one event, as `put` appends all events of a list of trees.
     pub fn put_event(&mut self, step: &TokenEvent<'_>) -> Result<(), TtFault>
-        ensures ok { OnOk result ((steps : List Step) → HasPut self.old steps → HasPut self.new (steps ++ step_of step.now ∷ [])) }
+        ensures ok { OnOk result ((steps : List Step) → HasPut self.old steps →
+            HasPut self.new (steps ++ step_of step.now ∷ [])) }
         ensures err { OnErr result (self.new ≡ self.old) }
         ensures memory { IsOkUnless result Memory }
     {
@@ -195,7 +199,8 @@ impl Printer {
     /// chunk and computed when asked for. `false`, with nothing changed, also if they would be no
     /// spans of a text.
     pub fn put_chunk_at(&mut self, chunk: &PrintedChunk, shift: Shift) -> Result<bool, TtFault>
-        ensures puts { IfOk result (PutsChunk self.old self.new chunk.now (map (shifted shift) chunk.now.tokens)) }
+        ensures puts { IfOk result (PutsChunk self.old self.new chunk.now
+            (map (shifted shift) chunk.now.tokens)) }
         ensures err { OnErr result (self.new ≡ self.old) }
         ensures memory { IsOkUnless result Memory }
     {
@@ -212,7 +217,8 @@ impl Printer {
     /// All that was appended, as a chunk. `None` if a group is open, a quote waits, a token was
     /// omitted, or nothing was printed. `Memory` is its only error.
     pub fn into_chunk(self) -> Result<Option<PrintedChunk>, TtFault>
-        ensures chunk { IfOk result (λ o. IfSome o (λ chunk. (steps : List Step) → HasPut self steps → IsChunkOf chunk steps)) }
+        ensures chunk { IfOk result (λ o. IfSome o
+            (λ chunk. (steps : List Step) → HasPut self steps → IsChunkOf chunk steps)) }
         ensures told { IfOk result (λ o. is_some o ≡ is_chunk self) }
         ensures memory { IsOkUnless result Memory }
     {
@@ -222,7 +228,8 @@ impl Printer {
     /// The text of all that was appended, the spans of its tokens, and the indices of omitted
     /// tokens. A refused call gives the printer back as it was.
     pub fn finish(self) -> Result<Printed, (Printer, TtFault)>
-        ensures ok { IfOk result (λ p. (steps : List Step) → HasPut self steps → print_in p ≡ print_of steps) }
+        ensures ok { IfOk result (λ p. (steps : List Step) → HasPut self steps →
+            print_in p ≡ print_of steps) }
         ensures err { IfErr result (λ e. (e.0 ≡ self) × (e.1 ≡ Memory)) }
     {
         let mut out = self.out;
@@ -243,7 +250,8 @@ impl Printer {
     /// As `finish`, with spans that are computed when asked for. A refused call gives the printer
     /// back as it was.
     pub fn finish_lazy(self) -> Result<LazyPrinted, (Printer, TtFault)>
-        ensures ok { IfOk result (λ p. (steps : List Step) → HasPut self steps → lazy_print_in p ≡ print_of steps) }
+        ensures ok { IfOk result (λ p. (steps : List Step) → HasPut self steps →
+            lazy_print_in p ≡ print_of steps) }
         ensures err { IfErr result (λ e. (e.0 ≡ self) × (e.1 ≡ Memory)) }
     {
         let mut out = self.out;
@@ -267,7 +275,8 @@ impl Printer {
 fn put_behind_quote(out: &mut PrintState, step: &TokenEvent<'_>) -> Result<(), TtFault>
     requires fits { Fits (state_of out.old) }
     ensures fits { OnOk result (Fits (state_of out.new)) }
-    ensures puts { OnOk result (PutsAny (state_of out.old) (state_of out.new) (step_of step.now ∷ [])) }
+    ensures puts { OnOk result (PutsAny (state_of out.old) (state_of out.new)
+        (step_of step.now ∷ [])) }
     ensures err { OnErr result (state_of out.new ≡ state_of out.old) }
     ensures memory { IsOkUnless result Memory }
 {
@@ -283,7 +292,8 @@ fn put_behind_quote(out: &mut PrintState, step: &TokenEvent<'_>) -> Result<(), T
 fn put_trees(alloc: Global, out: &mut PrintState, view: TokenTreesView<'_>) -> Result<(), TtFault>
     requires fits { Fits (state_of out.old) }
     ensures fits { OnOk result (Fits (state_of out.new)) }
-    ensures puts { OnOk result (PutsAny (state_of out.old) (state_of out.new) (walk (forest view.entry))) }
+    ensures puts { OnOk result (PutsAny (state_of out.old) (state_of out.new)
+        (walk (forest view.entry))) }
     ensures grows { Grows (state_of out.old) (state_of out.new) }
     ensures memory { IsOkUnless result Memory }
 {

@@ -91,7 +91,8 @@ impl RelativeSpans {
 
 // Whether ranges that end at `reach` or before still fit when they are shifted.
 fn has_room(shift: Shift, reach: u32) -> bool
-    ensures { result ≡ true → (shift.own.start + reach < 2 ^ 32) × (shift.other.start + reach < 2 ^ 32) }
+    ensures { result ≡ true → (shift.own.start + reach < 2 ^ 32) ×
+        (shift.other.start + reach < 2 ^ 32) }
 {
     let room = u32::MAX - reach;
     shift.own.start <= room && shift.other.start <= room

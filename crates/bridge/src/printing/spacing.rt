@@ -1,6 +1,7 @@
 //! Spacing: the gap between two printed tokens.
 ghost use Rattle.std.specs.Prelude.{◌≡◌};
-ghost use Rattle.bridge.specs.Edges.{are_joined, closing_edge, ends_line, gap_between, gap_outside, gap_text, has_one_gap, is_comment, leaf_edge};
+ghost use Rattle.bridge.specs.Edges.{are_joined, closing_edge, ends_line, gap_between, gap_outside};
+ghost use Rattle.bridge.specs.Edges.{gap_text, has_one_gap, is_comment, leaf_edge};
 ghost use Rattle.tt_data.specs.Lent.{leaf_lent};
 
 use tt_data::{DelimiterKind, LeafRef, Spacing};

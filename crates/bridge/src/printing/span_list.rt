@@ -1,10 +1,12 @@
 //! Lists of spans. Some spans are shared with a chunk, and computed when they are asked for.
-ghost use Rattle.std.specs.Prelude.{◌≡◌, ℕ, ◌+◌, ◌≤◌, ◌<◌, ◌^◌, ◌-◌, ◌∷◌, ◌++◌, [], IfOk, IfSome, OnErr, OnOk, leb, length, map, slice_get, take, true};
+ghost use Rattle.std.specs.Prelude.{◌≡◌, ℕ, ◌+◌, ◌≤◌, ◌<◌, ◌^◌, ◌-◌, ◌∷◌, ◌++◌, [], IfOk, IfSome};
+ghost use Rattle.std.specs.Prelude.{OnErr, OnOk, leb, length, map, slice_get, take, true};
 ghost use Rattle.std.specs.List.{AllWithin, list_all};
 ghost use Rattle.std.specs.Rc.{rc_value};
 ghost use Rattle.tt_data.specs.declared.span.Span.{Span};
 ghost use Rattle.bridge.specs.RelativeSpans.{is_in_text, shifted};
-ghost use Rattle.bridge.specs.SpanLists.{AreSpanRuns, AreRuns, AreSameRuns, IsRun, PutsShifted, run_spans, spans_in};
+ghost use Rattle.bridge.specs.SpanLists.{AreSpanRuns, AreRuns, AreSameRuns, IsRun, PutsShifted};
+ghost use Rattle.bridge.specs.SpanLists.{run_spans, spans_in};
 
 use crate::printing::relative_spans::{RelativeSpans, Shift, shifted};
 use std::alloc::{AllocError, Global};
@@ -247,7 +249,8 @@ fn shifted_run(
 ) -> Result<SpanRun, AllocError>
     requires long { «end» ≡ begin + length (rc_value shared.now) }
     requires fits { list_all (is_in_text shift) (rc_value shared.now) ≡ true }
-    ensures { IfOk result (λ r. IsRun begin r × (run_spans r ≡ map (shifted shift) (rc_value shared.now)) × (r.«end» ≡ «end»)) }
+    ensures { IfOk result (λ r. IsRun begin r ×
+        (run_spans r ≡ map (shifted shift) (rc_value shared.now)) × (r.«end» ≡ «end»)) }
 {
     let spans = shared.clone()?;
     Ok(SpanRun {
@@ -289,7 +292,8 @@ fn push_shifted(
 ) -> Result<bool, AllocError>
     requires { AreSpanRuns inner.old }
     ensures right { AreSpanRuns inner.new }
-    ensures ok { IfOk result (PutsShifted (spans_in inner.old) (spans_in inner.new) (rc_value shared.now) shift) }
+    ensures ok { IfOk result (PutsShifted (spans_in inner.old) (spans_in inner.new)
+        (rc_value shared.now) shift) }
     ensures err { OnErr result (spans_in inner.new ≡ spans_in inner.old) }
 {
     if !shared.fits(shift) || !settle(inner)? {

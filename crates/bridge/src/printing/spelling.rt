@@ -1,8 +1,10 @@
 //! How a leaf is spelled: by its displayed text, if that is one token that is read as the leaf.
-ghost use Rattle.std.specs.Prelude.{◌≡◌, ◌<◌, ◌^◌, List, [], ◌∷◌, Some, None, chars, length, IfOk, IsOkUnless, option_map, string_bytes, if◌then◌else◌};
+ghost use Rattle.std.specs.Prelude.{◌≡◌, ◌<◌, ◌^◌, List, [], ◌∷◌, Some, None, chars, length, IfOk};
+ghost use Rattle.std.specs.Prelude.{IsOkUnless, option_map, string_bytes, if◌then◌else◌};
 ghost use Rattle.bridge.specs.ReadSteps.{MayCut};
 ghost use Rattle.bridge.specs.Reading.{PlacedToken};
-ghost use Rattle.bridge.specs.Spelling.{is_text_of, is_that_leaf, leaf_spelling, own_spelling, same_form, same_leaf, same_rawness};
+ghost use Rattle.bridge.specs.Spelling.{is_text_of, is_that_leaf, leaf_spelling, own_spelling};
+ghost use Rattle.bridge.specs.Spelling.{same_form, same_leaf, same_rawness};
 ghost use Rattle.bridge.specs.TokenSteps.{steps_of_class};
 ghost use Rattle.rustc_lexer.specs.Lexing.{tokens_of};
 ghost use Rattle.tt.specs.TokenLiterals.{IsLiteralToken, literal_in};
@@ -56,7 +58,8 @@ fn are_alike_raw(first: IdentIsRaw, second: IdentIsRaw) -> bool
 fn is_literal(literal: LiteralRef<'_>, form: LitKind, suffix_start: u32, text: &str) -> bool
     requires boundary { IsCharBoundary text.now suffix_start }
     requires token { IsLiteralToken form suffix_start text.now }
-    ensures { (span : Span) → result ≡ same_leaf (as_leaf.Literal (literal_lent literal.entry)) (as_leaf.Literal (literal_in form suffix_start text.now span)) }
+    ensures { (span : Span) → result ≡ same_leaf (as_leaf.Literal (literal_lent literal.entry))
+        (as_leaf.Literal (literal_in form suffix_start text.now span)) }
 {
     let (inside, suffix) = literal_parts(text, form, suffix_start);
     are_of_one_form(literal.kind(), form) && literal.text() == inside && literal.suffix() == suffix
@@ -65,7 +68,8 @@ fn is_literal(literal: LiteralRef<'_>, form: LitKind, suffix_start: u32, text: &
 // Whether the leaf is what this whole token is read as, apart from spans and spacing.
 fn is_read_as(leaf: LeafRef<'_>, class: TokenClass, text: &str) -> bool
     requires { MayCut class text.now }
-    ensures { (t : PlacedToken) (more : List PlacedToken) → t.text ≡ text.now → result ≡ is_that_leaf (leaf_lent leaf.entry) (steps_of_class class t more) }
+    ensures { (t : PlacedToken) (more : List PlacedToken) → t.text ≡ text.now →
+        result ≡ is_that_leaf (leaf_lent leaf.entry) (steps_of_class class t more) }
 {
     match (leaf, class) {
         (LeafRef::Ident(ident), TokenClass::Name(is_raw)) => {
@@ -157,7 +161,8 @@ fn name_spelling(alloc: Global, name: &str, span: Span) -> Result<Option<String>
 /// The spelling of the leaf, if it has one. What stands for the root of a crate is spelled as the
 /// crate's name: `$crate` as `crate`, `$crate:std` as `std`. Its only error is out of memory.
 pub(crate) fn leaf_spelling(alloc: Global, leaf: LeafRef<'_>) -> Result<Option<String>, TtFault>
-    ensures spelling { IfOk result (λ o. option_map string_bytes o ≡ leaf_spelling (leaf_lent leaf.entry)) }
+    ensures spelling { IfOk result (λ o. option_map string_bytes o
+        ≡ leaf_spelling (leaf_lent leaf.entry)) }
     ensures memory { IsOkUnless result Memory }
 {
     if let LeafRef::Ident(ident) = leaf {

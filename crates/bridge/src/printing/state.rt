@@ -1,8 +1,11 @@
 //! The state of a printer: what is printed so far, visible token by visible token.
-ghost use Rattle.std.specs.Prelude.{◌≡◌, ◌+◌, ◌∷◌, [], encode_utf8, List, None, Some, true, IfOk, OnErr, OnOk, IsOkUnless, string_bytes, option_map};
+ghost use Rattle.std.specs.Prelude.{◌≡◌, ◌+◌, ◌∷◌, [], encode_utf8, List, None, Some, true, IfOk};
+ghost use Rattle.std.specs.Prelude.{OnErr, OnOk, IsOkUnless, string_bytes, option_map};
 ghost use Rattle.std.specs.Str.{IsCharBoundary};
 ghost use Rattle.bridge.specs.FastSpellings.{is_mark_char};
-ghost use Rattle.bridge.specs.PrintStates.{Fits, Grows, IsReady, PutsAny, PutsNext, Settles, none_behind, print_with, printed_so_far, saved_of, state_of, token_behind, token_text};
+ghost use Rattle.bridge.specs.PrintStates.{Fits, Grows, IsReady, PutsAny, PutsNext, Settles};
+ghost use Rattle.bridge.specs.PrintStates.{none_behind, print_with, printed_so_far, saved_of};
+ghost use Rattle.bridge.specs.PrintStates.{state_of, token_behind, token_text};
 ghost use Rattle.bridge.specs.Printers.{Continues, PrinterState, nothing_put};
 ghost use Rattle.bridge.specs.Printing.{Print, is_visible_step};
 ghost use Rattle.bridge.specs.Spelling.{begins_with_name, close_text, open_text, spelling};
@@ -64,7 +67,8 @@ fn closing(kind: DelimiterKind) -> Option<char>
 // Prints a token, which leaves as many groups open. A refused call changes nothing.
 #[inline(always)]
 fn add(out: &mut PrintState, edge: Edge, span: Span, text: TokenText<'_>) -> Result<(), TtFault>
-    ensures ok { OnOk result (state_of out.new ≡ token_behind (state_of out.old) edge span (token_text text.entry)) }
+    ensures ok { OnOk result (state_of out.new
+        ≡ token_behind (state_of out.old) edge span (token_text text.entry)) }
     ensures err { OnErr result (state_of out.new ≡ state_of out.old) }
     ensures memory { IsOkUnless result Memory }
 {
@@ -122,7 +126,8 @@ fn is_joint(spacing: Spacing) -> bool
 fn put_quote(out: &mut PrintState, punct: Punct) -> Result<(), TtFault>
     requires quote { is_char "'" punct ≡ true }
     requires ready { IsReady (state_of out.old) }
-    ensures puts { OnOk result (PutsNext (state_of out.old) (state_of out.new) (at_leaf (as_leaf.Punct punct) ∷ [])) }
+    ensures puts { OnOk result (PutsNext (state_of out.old) (state_of out.new)
+        (at_leaf (as_leaf.Punct punct) ∷ [])) }
     ensures err { OnErr result (state_of out.new ≡ state_of out.old) }
     ensures memory { IsOkUnless result Memory }
 {
@@ -138,7 +143,8 @@ fn put_quote(out: &mut PrintState, punct: Punct) -> Result<(), TtFault>
 fn put_mark(out: &mut PrintState, punct: &Punct) -> Result<(), TtFault>
     requires mark { is_mark_char punct.now.char ≡ true }
     requires ready { IsReady (state_of out.old) }
-    ensures puts { OnOk result (PutsNext (state_of out.old) (state_of out.new) (at_leaf (as_leaf.Punct punct.now) ∷ [])) }
+    ensures puts { OnOk result (PutsNext (state_of out.old) (state_of out.new)
+        (at_leaf (as_leaf.Punct punct.now) ∷ [])) }
     ensures err { OnErr result (state_of out.new ≡ state_of out.old) }
     ensures memory { IsOkUnless result Memory }
 {
@@ -149,7 +155,8 @@ fn put_mark(out: &mut PrintState, punct: &Punct) -> Result<(), TtFault>
 // Prints a name, a number or another text without a punct.
 #[inline(never)]
 fn add_word(out: &mut PrintState, span: &Span, text: &str) -> Result<(), TtFault>
-    ensures ok { OnOk result (state_of out.new ≡ token_behind (state_of out.old) Other span.now text.now) }
+    ensures ok { OnOk result (state_of out.new
+        ≡ token_behind (state_of out.old) Other span.now text.now) }
     ensures err { OnErr result (state_of out.new ≡ state_of out.old) }
     ensures memory { IsOkUnless result Memory }
 {
@@ -159,9 +166,11 @@ fn add_word(out: &mut PrintState, span: &Span, text: &str) -> Result<(), TtFault
 // Adds a leaf with this spelling, which is no quote.
 #[inline(always)]
 fn put_spelled(out: &mut PrintState, leaf: LeafRef<'_>, text: &str) -> Result<(), TtFault>
-    requires spelled { (more : List Step) → spelling (at_leaf (leaf_lent leaf)) more ≡ Some text.now }
+    requires spelled { (more : List Step) →
+        spelling (at_leaf (leaf_lent leaf)) more ≡ Some text.now }
     requires ready { IsReady (state_of out.old) }
-    ensures puts { OnOk result (PutsNext (state_of out.old) (state_of out.new) (at_leaf (leaf_lent leaf.entry) ∷ [])) }
+    ensures puts { OnOk result (PutsNext (state_of out.old) (state_of out.new)
+        (at_leaf (leaf_lent leaf.entry) ∷ [])) }
     ensures err { OnErr result (state_of out.new ≡ state_of out.old) }
     ensures memory { IsOkUnless result Memory }
 {
@@ -172,7 +181,8 @@ fn put_spelled(out: &mut PrintState, leaf: LeafRef<'_>, text: &str) -> Result<()
 fn put_unspelled(out: &mut PrintState, leaf: LeafRef<'_>) -> Result<(), TtFault>
     requires unspelled { (more : List Step) → spelling (at_leaf (leaf_lent leaf)) more ≡ None }
     requires ready { IsReady (state_of out.old) }
-    ensures puts { OnOk result (PutsNext (state_of out.old) (state_of out.new) (at_leaf (leaf_lent leaf.entry) ∷ [])) }
+    ensures puts { OnOk result (PutsNext (state_of out.old) (state_of out.new)
+        (at_leaf (leaf_lent leaf.entry) ∷ [])) }
     ensures err { OnErr result (state_of out.new ≡ state_of out.old) }
     ensures memory { IsOkUnless result Memory }
 {
@@ -183,7 +193,8 @@ fn put_unspelled(out: &mut PrintState, leaf: LeafRef<'_>) -> Result<(), TtFault>
 #[inline(never)]
 fn put_lexed(alloc: Global, out: &mut PrintState, leaf: &LeafRef<'_>) -> Result<(), TtFault>
     requires ready { IsReady (state_of out.old) }
-    ensures puts { OnOk result (PutsNext (state_of out.old) (state_of out.new) (at_leaf (leaf_lent leaf.now) ∷ [])) }
+    ensures puts { OnOk result (PutsNext (state_of out.old) (state_of out.new)
+        (at_leaf (leaf_lent leaf.now) ∷ [])) }
     ensures err { OnErr result (state_of out.new ≡ state_of out.old) }
     ensures memory { IsOkUnless result Memory }
 {
@@ -202,7 +213,8 @@ fn put_lexed(alloc: Global, out: &mut PrintState, leaf: &LeafRef<'_>) -> Result<
 #[inline(never)]
 fn put_other(alloc: Global, out: &mut PrintState, leaf: &LeafRef<'_>) -> Result<(), TtFault>
     requires ready { IsReady (state_of out.old) }
-    ensures puts { OnOk result (PutsNext (state_of out.old) (state_of out.new) (at_leaf (leaf_lent leaf.now) ∷ [])) }
+    ensures puts { OnOk result (PutsNext (state_of out.old) (state_of out.new)
+        (at_leaf (leaf_lent leaf.now) ∷ [])) }
     ensures err { OnErr result (state_of out.new ≡ state_of out.old) }
     ensures memory { IsOkUnless result Memory }
 {
@@ -226,7 +238,8 @@ fn put_other(alloc: Global, out: &mut PrintState, leaf: &LeafRef<'_>) -> Result<
 #[inline(never)]
 fn put_opening(out: &mut PrintState, kind: DelimiterKind, span: &Span) -> Result<(), TtFault>
     requires ready { IsReady (state_of out.old) }
-    ensures puts { OnOk result (PutsNext (state_of out.old) (state_of out.new) (opens kind span.now ∷ [])) }
+    ensures puts { OnOk result (PutsNext (state_of out.old) (state_of out.new)
+        (opens kind span.now ∷ [])) }
     ensures err { OnErr result (state_of out.new ≡ state_of out.old) }
     ensures memory { IsOkUnless result Memory }
 {
@@ -244,7 +257,8 @@ fn put_opening(out: &mut PrintState, kind: DelimiterKind, span: &Span) -> Result
 #[inline(never)]
 fn put_closing(out: &mut PrintState, kind: DelimiterKind, span: &Span) -> Result<(), TtFault>
     requires ready { IsReady (state_of out.old) }
-    ensures puts { OnOk result (PutsNext (state_of out.old) (state_of out.new) (closes kind span.now ∷ [])) }
+    ensures puts { OnOk result (PutsNext (state_of out.old) (state_of out.new)
+        (closes kind span.now ∷ [])) }
     ensures err { OnErr result (state_of out.new ≡ state_of out.old) }
     ensures memory { IsOkUnless result Memory }
 {
@@ -269,7 +283,8 @@ pub(crate) fn put_next(
     step: &TokenEvent<'_>,
 ) -> Result<(), TtFault>
     requires ready { IsReady (state_of out.old) }
-    ensures puts { OnOk result (PutsNext (state_of out.old) (state_of out.new) (step_of step.now ∷ [])) }
+    ensures puts { OnOk result (PutsNext (state_of out.old) (state_of out.new)
+        (step_of step.now ∷ [])) }
     ensures err { OnErr result (state_of out.new ≡ state_of out.old) }
     ensures memory { IsOkUnless result Memory }
 {
@@ -297,7 +312,8 @@ pub(crate) fn put_next(
 
 // Whether the event is a name that isn't raw and has a spelling.
 fn is_name(alloc: Global, step: &TokenEvent<'_>) -> Result<bool, TtFault>
-    ensures name { IfOk result (λ is. (more : List Step) → begins_with_name (step_of step.now ∷ more) ≡ is) }
+    ensures name { IfOk result (λ is. (more : List Step) →
+        begins_with_name (step_of step.now ∷ more) ≡ is) }
     ensures memory { IsOkUnless result Memory }
 {
     match step {
@@ -331,7 +347,8 @@ pub(crate) fn put_event(
 ) -> Result<(), TtFault>
     requires fits { Fits (state_of out.old) }
     ensures fits { OnOk result (Fits (state_of out.new)) }
-    ensures puts { OnOk result (PutsAny (state_of out.old) (state_of out.new) (step_of step.now ∷ [])) }
+    ensures puts { OnOk result (PutsAny (state_of out.old) (state_of out.new)
+        (step_of step.now ∷ [])) }
     ensures grows { Grows (state_of out.old) (state_of out.new) }
     ensures memory { IsOkUnless result Memory }
 {
@@ -348,7 +365,8 @@ pub(crate) fn put_event(
 /// Ends the text: a pending quote is omitted, and a newline comes last if anything is printed.
 pub(crate) fn end(out: &mut PrintState) -> Result<(), TtFault>
     requires fits { Fits (state_of out.old) }
-    ensures ends { OnOk result ((all : Print) → Continues (state_of out.old) [] all → printed_so_far (state_of out.new) ≡ all) }
+    ensures ends { OnOk result ((all : Print) → Continues (state_of out.old) [] all →
+        printed_so_far (state_of out.new) ≡ all) }
     ensures grows { Grows (state_of out.old) (state_of out.new) }
     ensures memory { IsOkUnless result Memory }
 {
@@ -362,7 +380,8 @@ pub(crate) fn end(out: &mut PrintState) -> Result<(), TtFault>
 /// Ends the text, and gives the spans of its tokens in one vector.
 pub(crate) fn end_with_spans(out: &mut PrintState) -> Result<Vec<Span>, TtFault>
     requires fits { Fits (state_of out.old) }
-    ensures ends { IfOk result (λ spans. (all : Print) → Continues (state_of out.old) [] all → print_with out.new spans ≡ all) }
+    ensures ends { IfOk result (λ spans. (all : Print) → Continues (state_of out.old) [] all →
+        print_with out.new spans ≡ all) }
     ensures grows { OnErr result (Grows (state_of out.old) (state_of out.new)) }
     ensures memory { IsOkUnless result Memory }
 {

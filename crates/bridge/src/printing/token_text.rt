@@ -1,5 +1,6 @@
 //! The text of a printed token, and the gap before it.
-ghost use Rattle.std.specs.Prelude.{◌≡◌, ◌≤◌, ◌+◌, ◌++◌, encode_utf8, length, string_bytes, string_capacity, string_len};
+ghost use Rattle.std.specs.Prelude.{◌≡◌, ◌≤◌, ◌+◌, ◌++◌, encode_utf8, length, string_bytes};
+ghost use Rattle.std.specs.Prelude.{string_capacity, string_len};
 ghost use Rattle.bridge.specs.PrintStates.{gap_behind, token_text};
 
 use crate::printing::spacing::{Edge, Gap, gap_between};

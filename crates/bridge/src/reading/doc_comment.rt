@@ -1,5 +1,6 @@
 //! Doc comments, read as attributes.
-ghost use Rattle.std.specs.Prelude.{◌≡◌, ◌+◌, ◌-◌, ◌≤◌, true, length, string_bytes, IfErr, IfOk, OnOk};
+ghost use Rattle.std.specs.Prelude.{◌≡◌, ◌+◌, ◌-◌, ◌≤◌, true, length, string_bytes, IfErr, IfOk};
+ghost use Rattle.std.specs.Prelude.{OnOk};
 ghost use Rattle.std.specs.Str.{IsCharBoundary};
 ghost use Rattle.bridge.specs.ReadSteps.{IsRefusal, doc_inside, doc_puncts, doc_trees};
 ghost use Rattle.bridge.specs.TokenSteps.{doc_text, escaped, without_last_return};
@@ -31,7 +32,8 @@ fn without_last_return(text: &str) -> &str
 // The text of a doc comment: without its first three characters, and without the end of a block.
 pub fn doc_text(is_block: bool, text: &str) -> &str
     requires begin { IsCharBoundary text.now 3 }
-    requires block { is_block ≡ true → (5 ≤ length text.now) × IsCharBoundary text.now (length text.now - 2) }
+    requires block { is_block ≡ true → (5 ≤ length text.now) × IsCharBoundary text.now
+        (length text.now - 2) }
     ensures { result.now ≡ doc_text is_block text.now }
 {
     if is_block {
@@ -59,8 +61,10 @@ fn escaped(alloc: Global, text: &str) -> Result<String, AllocError>
 
 // The `#`, or the `#` and `!`, before the brackets.
 fn add_puncts(builder: &mut TopSubtreeBuilder, style: DocStyle, span: Span) -> Result<(), TtFault>
-    ensures ok { OnOk result (builder.new.tree ≡ extended builder.old.tree (doc_puncts style span)) }
-    ensures refused { IfErr result (IsRefusal (count_of builder.old.tree + size (doc_puncts style span))) }
+    ensures ok { OnOk result (builder.new.tree
+        ≡ extended builder.old.tree (doc_puncts style span)) }
+    ensures refused { IfErr result (IsRefusal
+        (count_of builder.old.tree + size (doc_puncts style span))) }
 {
     add_mark(builder, '#', Spacing::Alone, span)?;
     match style {
@@ -76,7 +80,8 @@ fn add_inside(
     text: &str,
     span: Span,
 ) -> Result<(), TtFault>
-    ensures ok { OnOk result (builder.new.tree ≡ extended builder.old.tree (doc_inside text.now span)) }
+    ensures ok { OnOk result (builder.new.tree
+        ≡ extended builder.old.tree (doc_inside text.now span)) }
     ensures refused { IfErr result (IsRefusal (count_of builder.old.tree + 3)) }
 {
     let text = escaped(names.alloc, text)?;
@@ -95,8 +100,10 @@ pub fn add_doc(
     text: &str,
     span: Span,
 ) -> Result<(), TtFault>
-    ensures ok { OnOk result (builder.new.tree ≡ extended builder.old.tree (doc_trees style text.now span)) }
-    ensures refused { IfErr result (IsRefusal (count_of builder.old.tree + size (doc_trees style text.now span))) }
+    ensures ok { OnOk result (builder.new.tree
+        ≡ extended builder.old.tree (doc_trees style text.now span)) }
+    ensures refused { IfErr result (IsRefusal
+        (count_of builder.old.tree + size (doc_trees style text.now span))) }
 {
     add_puncts(builder, style, span)?;
     open_group(builder, DelimiterKind::Bracket, span)?;

@@ -66,7 +66,8 @@ pub fn add_name(
     is_raw: IdentIsRaw,
     span: Span,
 ) -> Result<(), TtFault>
-    ensures ok { OnOk result (builder.new.tree ≡ extended builder.old.tree (leaf (name_leaf name.now is_raw span) empty)) }
+    ensures ok { OnOk result (builder.new.tree
+        ≡ extended builder.old.tree (leaf (name_leaf name.now is_raw span) empty)) }
     ensures refused { IfErr result (IsRefusal (count_of builder.old.tree + 1)) }
 {
     let sym = names.symbol(name)?;
@@ -79,7 +80,8 @@ pub fn add_mark(
     spacing: Spacing,
     span: Span,
 ) -> Result<(), TtFault>
-    ensures ok { OnOk result (builder.new.tree ≡ extended builder.old.tree (leaf (mark_leaf char spacing span) empty)) }
+    ensures ok { OnOk result (builder.new.tree
+        ≡ extended builder.old.tree (leaf (mark_leaf char spacing span) empty)) }
     ensures refused { IfErr result (IsRefusal (count_of builder.old.tree + 1)) }
 {
     let punct = Punct {
@@ -99,7 +101,8 @@ pub fn add_quoted_name(
 ) -> Result<(), TtFault>
     requires some { range.start < range.«end» }
     requires boundary { IsCharBoundary text.now 1 }
-    ensures ok { OnOk result (builder.new.tree ≡ extended builder.old.tree (quoted_name text.now range)) }
+    ensures ok { OnOk result (builder.new.tree
+        ≡ extended builder.old.tree (quoted_name text.now range)) }
     ensures refused { IfErr result (IsRefusal (count_of builder.old.tree + 2)) }
 {
     let start = range.start;
@@ -124,7 +127,9 @@ pub fn add_literal(
     requires short { length text.now < 2 ^ 32 }
     requires boundary { IsCharBoundary text.now suffix_start }
     requires token { IsLiteralToken form suffix_start text.now }
-    ensures ok { OnOk result (builder.new.tree ≡ extended builder.old.tree (leaf (as_leaf.Literal (literal_in form suffix_start text.now span)) empty)) }
+    ensures ok { OnOk result (builder.new.tree
+        ≡ extended builder.old.tree (leaf
+        (as_leaf.Literal (literal_in form suffix_start text.now span)) empty)) }
     ensures refused { IfErr result (IsRefusal (count_of builder.old.tree + 1)) }
 {
     let literal = token_to_literal(alloc, text, span, form, suffix_start)?;

@@ -3,11 +3,13 @@
 //!
 //! Which checkpoints there are decides speed alone. A long walk leaves a checkpoint half-way, and
 //! an edit moves the checkpoints after it.
-ghost use Rattle.std.specs.Prelude.{◌≡◌, ◌+◌, ◌<◌, ◌≤◌, ◌^◌, ℕ, true, length, map, take, drop, chars, IfOk, IsCharBoundary};
+ghost use Rattle.std.specs.Prelude.{◌≡◌, ◌+◌, ◌<◌, ◌≤◌, ◌^◌, ℕ, true, length, map, take, drop};
+ghost use Rattle.std.specs.Prelude.{chars, IfOk, IsCharBoundary};
 ghost use Rattle.std.specs.List.{All, list_any};
 ghost use Rattle.rustc_lexer.specs.Edit.{boundaries_from, is_clear_of, moves_to};
 ghost use Rattle.rustc_lexer.specs.Lexing.{tokens_of};
-ghost use Rattle.rustc_lexer.specs.Relexing.{IsCheckpoint, IsInRange, IsRunStart, moved_checkpoint, total};
+ghost use Rattle.rustc_lexer.specs.Relexing.{IsCheckpoint, IsInRange, IsRunStart, moved_checkpoint};
+ghost use Rattle.rustc_lexer.specs.Relexing.{total};
 
 use crate::relex::lookahead::{is_clear, run_start};
 use crate::token::Token;
@@ -73,8 +75,10 @@ pub fn first_from(tokens: &[Token], at: usize, stop: usize) -> (usize, usize)
     ensures place { result.1 ≡ at + total (take result.0 tokens.now) }
     ensures within { result.0 ≤ length tokens.now }
     ensures stop { stop ≤ result.1 }
-    ensures moves { (moved place : ℕ) → list_any (moves_to stop moved place) (boundaries_from at tokens.now)
-        ≡ list_any (moves_to stop moved place) (boundaries_from result.1 (drop result.0 tokens.now)) }
+    ensures moves { (moved place : ℕ) → list_any (moves_to stop moved place)
+        (boundaries_from at tokens.now)
+        ≡ list_any (moves_to stop moved place)
+        (boundaries_from result.1 (drop result.0 tokens.now)) }
 {
     let mut place = at;
     for (k, token) in tokens.iter().enumerate() {

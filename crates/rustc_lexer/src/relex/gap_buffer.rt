@@ -166,7 +166,8 @@ fn replace_moving_front(
     requires order { start ≤ stop }
     requires within { room + stop ≤ length items.old.items }
     requires fits { length fresh.now ≤ room + (stop - start) }
-    ensures tokens { drop result items.new.items ≡ splice (drop room items.old.items) start stop fresh.now }
+    ensures tokens { drop result items.new.items
+        ≡ splice (drop room items.old.items) start stop fresh.now }
     ensures within { result ≤ length items.new.items }
 {
     let to = room + (stop - start) - fresh.len();
@@ -185,7 +186,8 @@ fn replace_moving_back(
 ) -> Result<(), AllocError>
     requires order { start ≤ stop }
     requires within { room + stop ≤ length items.old.items }
-    ensures tokens { OnOk result (drop room items.new.items ≡ splice (drop room items.old.items) start stop fresh.items) }
+    ensures tokens { OnOk result (drop room items.new.items
+        ≡ splice (drop room items.old.items) start stop fresh.items) }
     ensures within { OnOk result (room ≤ length items.new.items) }
     ensures err { OnErr result (items.new.items ≡ items.old.items) }
 {

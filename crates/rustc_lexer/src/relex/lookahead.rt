@@ -1,6 +1,7 @@
 //! How far the lexer looks ahead: tokens that end at least two characters before an edit, and not
 //! inside the run of hashes there, do not depend on it.
-ghost use Rattle.std.specs.Prelude.{◌≡◌, ◌+◌, ◌-◌, ◌<◌, ◌≤◌, ◌&&◌, ℕ, nat_le, drop, length, chars, take, IsCharBoundary};
+ghost use Rattle.std.specs.Prelude.{◌≡◌, ◌+◌, ◌-◌, ◌<◌, ◌≤◌, ◌&&◌, ℕ, nat_le, drop, length, chars};
+ghost use Rattle.std.specs.Prelude.{take, IsCharBoundary};
 ghost use Rattle.rustc_lexer.specs.Edit.{is_clear_of};
 ghost use Rattle.rustc_lexer.specs.Relexing.{IsLastChar, IsRunStart};
 

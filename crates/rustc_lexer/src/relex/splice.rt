@@ -1,9 +1,12 @@
 //! Edits a text and relexes it: the tokens well before the edit and those after it are kept.
-ghost use Rattle.std.specs.Prelude.{◌≡◌, ◌+◌, ◌-◌, ◌<◌, ◌≤◌, ◌^◌, true, length, take, drop, chars, string_bytes, string_len, string_capacity, IfOk, OnOk, OnErr, IsCharBoundary};
+ghost use Rattle.std.specs.Prelude.{◌≡◌, ◌+◌, ◌-◌, ◌<◌, ◌≤◌, ◌^◌, true, length, take, drop, chars};
+ghost use Rattle.std.specs.Prelude.{string_bytes, string_len, string_capacity, IfOk, OnOk, OnErr};
+ghost use Rattle.std.specs.Prelude.{IsCharBoundary};
 ghost use Rattle.std.specs.List.{splice};
 ghost use Rattle.rustc_lexer.specs.Edit.{edited, front_of, is_clear_of, kept};
 ghost use Rattle.rustc_lexer.specs.Lexing.{tokens_of};
-ghost use Rattle.rustc_lexer.specs.Relexing.{IsBegun, IsChanged, IsCheckpoint, IsRelexed, IsSpliced, IsScan, LexesOne, count_to_meeting, total};
+ghost use Rattle.rustc_lexer.specs.Relexing.{IsBegun, IsChanged, IsCheckpoint, IsRelexed};
+ghost use Rattle.rustc_lexer.specs.Relexing.{IsSpliced, IsScan, LexesOne, count_to_meeting, total};
 ghost use Rattle.rustc_lexer.specs.Remaining.{tokens_left};
 
 use crate::lex::tokenize;
@@ -44,7 +47,8 @@ fn front(text: &str, tokens: &[Token], near: Checkpoint, start: usize) -> (usize
 // Lexes the next token, appends it to the fresh ones, and answers its length in bytes.
 fn lex_one(tokens: &mut Tokens<'_>, fresh: &mut Vec<Token>) -> Result<usize, AllocError>
     requires { 0 < length (tokens_left tokens.old) }
-    ensures lexed { IfOk result (λ len. LexesOne (tokens_left tokens.old) (tokens_left tokens.new) fresh.old.items fresh.new.items len) }
+    ensures lexed { IfOk result (λ len. LexesOne (tokens_left tokens.old) (tokens_left tokens.new)
+        fresh.old.items fresh.new.items len) }
     ensures short { IfOk result (λ len. len < 2 ^ 32) }
 {
     match tokens.next() {
@@ -69,9 +73,13 @@ fn relex(
     requires small { length text.now < 2 ^ 32 }
     requires fits { at + length text.now < 2 ^ 33 }
     requires same_end { at + length text.now ≡ to + total old.now }
-    ensures fresh { IfOk result (λ r. r.0.items ≡ take (count_to_meeting at (tokens_of (chars text.now)) to old.now) (tokens_of (chars text.now))) }
-    ensures count { IfOk result (λ r. length r.0.items ≡ count_to_meeting at (tokens_of (chars text.now)) to old.now) }
-    ensures met { IfOk result (λ r. (r.1 ≤ length old.now) × (at + total r.0.items ≡ r.2) × (to + total (take r.1 old.now) ≡ r.2)) }
+    ensures fresh { IfOk result (λ r. r.0.items
+        ≡ take (count_to_meeting at (tokens_of (chars text.now)) to old.now)
+        (tokens_of (chars text.now))) }
+    ensures count { IfOk result (λ r. length r.0.items
+        ≡ count_to_meeting at (tokens_of (chars text.now)) to old.now) }
+    ensures met { IfOk result (λ r. (r.1 ≤ length old.now) × (at + total r.0.items ≡ r.2) ×
+        (to + total (take r.1 old.now) ≡ r.2)) }
 {
     let mut fresh = Vec::new(alloc);
     let mut tokens = tokenize(text, FrontmatterAllowed::No);
@@ -106,7 +114,8 @@ fn relex_into(
     requires order { front.tokens ≤ stop }
     requires within { stop ≤ length tokens.old }
     requires same_end { length text.now ≡ to + total (drop stop tokens.old) }
-    ensures relexed { IfOk result (λ r. IsSpliced text.now tokens.old tokens.new front.tokens front.place stop to r.1 r.0) }
+    ensures relexed { IfOk result (λ r. IsSpliced text.now tokens.old tokens.new front.tokens
+        front.place stop to r.1 r.0) }
     ensures err { OnErr result (tokens.new ≡ tokens.old) }
 {
     let (fresh, met, place) = relex(
@@ -149,7 +158,8 @@ fn find_start(
     requires start { IsCharBoundary text.now start }
     requires stop { IsCharBoundary text.now stop }
     ensures begun { IsBegun text.now tokens.now start result.front.tokens result.front.place }
-    ensures scan { IsScan result.front.place stop result.passed result.boundary (drop result.front.tokens tokens.now) }
+    ensures scan { IsScan result.front.place stop result.passed result.boundary
+        (drop result.front.tokens tokens.now) }
     ensures fits { result.boundary ≤ length text.now }
 {
     let (count, at) = front(text, tokens, near, start);
@@ -175,7 +185,8 @@ fn replace_bytes(
     requires start { IsCharBoundary (string_bytes text.old) start }
     requires stop { IsCharBoundary (string_bytes text.old) stop }
     requires order { start ≤ stop }
-    ensures text { OnOk result (string_bytes text.new ≡ edited (string_bytes text.old) start stop replacement.now) }
+    ensures text { OnOk result (string_bytes text.new
+        ≡ edited (string_bytes text.old) start stop replacement.now) }
     ensures room { OnOk result (string_len text.new + (stop - start) ≤ string_capacity text.new) }
     ensures err { OnErr result (string_bytes text.new ≡ string_bytes text.old) }
 {
@@ -195,9 +206,12 @@ fn replace(
     requires start { IsCharBoundary (string_bytes text.old) start }
     requires stop { IsCharBoundary (string_bytes text.old) stop }
     requires order { start ≤ stop }
-    ensures text { OnOk result (string_bytes text.new ≡ edited (string_bytes text.old) start stop replacement.now) }
-    ensures gone { IfOk result (λ gone. string_bytes gone ≡ take (stop - start) (drop start (string_bytes text.old))) }
-    ensures room { IfOk result (λ gone. string_len text.new + length (string_bytes gone) ≤ string_capacity text.new) }
+    ensures text { OnOk result (string_bytes text.new
+        ≡ edited (string_bytes text.old) start stop replacement.now) }
+    ensures gone { IfOk result (λ gone. string_bytes gone
+        ≡ take (stop - start) (drop start (string_bytes text.old))) }
+    ensures room { IfOk result (λ gone. string_len text.new + length (string_bytes gone)
+        ≤ string_capacity text.new) }
     ensures err { OnErr result (string_bytes text.new ≡ string_bytes text.old) }
 {
     let gone = String::from_str(alloc, &text[start..stop])?;
@@ -229,13 +243,20 @@ fn relex_tokens(
     end: usize,
 ) -> Result<Relexed, AllocError>
     requires small { length text.now < 2 ^ 32 }
-    requires changed { IsChanged text.now tokens.old found.front.tokens found.front.place found.passed found.boundary stop «end» }
+    requires changed { IsChanged text.now tokens.old found.front.tokens found.front.place
+        found.passed found.boundary stop «end» }
     ensures tokens { OnOk result (tokens.new ≡ tokens_of (chars text.now)) }
     ensures relexed { IfOk result (IsRelexed tokens.old tokens.new) }
     ensures kept { IfOk result (λ m.
-        (w : IsChanged text.now tokens.old found.front.tokens found.front.place found.passed found.boundary stop «end») →
+        (w : IsChanged text.now tokens.old found.front.tokens found.front.place found.passed
+        found.boundary stop «end») →
         kept w.old w.start stop w.replacement
-        ≡ record { front = m.front.tokens; lexed = m.new.tokens - m.front.tokens; back = length tokens.old - m.old.tokens }) }
+        ≡ record {
+          front = m.front.tokens;
+          lexed = m.new.tokens - m.front.tokens;
+          back = length
+              tokens.old - m.old.tokens;
+        }) }
     ensures err { OnErr result (tokens.new ≡ tokens.old) }
 {
     let RelexStart {
@@ -270,12 +291,19 @@ pub fn edit_and_relex(
     requires stop { IsCharBoundary (string_bytes text.old) stop }
     requires order { start ≤ stop }
     requires small { length (string_bytes text.old) < 2 ^ 32 }
-    requires fits { length (string_bytes text.old) - (stop - start) + length replacement.now < 2 ^ 32 }
-    ensures text { OnOk result (string_bytes text.new ≡ edited (string_bytes text.old) start stop replacement.now) }
+    requires fits { length (string_bytes text.old) - (stop - start) + length replacement.now < 2 ^
+        32 }
+    ensures text { OnOk result (string_bytes text.new
+        ≡ edited (string_bytes text.old) start stop replacement.now) }
     ensures tokens { OnOk result (tokens.new ≡ tokens_of (chars (string_bytes text.new))) }
     ensures relexed { IfOk result (IsRelexed tokens.old tokens.new) }
     ensures kept { IfOk result (λ m. kept (string_bytes text.old) start stop replacement.now
-        ≡ record { front = m.front.tokens; lexed = m.new.tokens - m.front.tokens; back = length tokens.old - m.old.tokens }) }
+        ≡ record {
+          front = m.front.tokens;
+          lexed = m.new.tokens - m.front.tokens;
+          back = length
+              tokens.old - m.old.tokens;
+        }) }
     ensures err { OnErr result (string_bytes text.new ≡ string_bytes text.old) }
     ensures err_tokens { OnErr result (tokens.new ≡ tokens.old) }
 {

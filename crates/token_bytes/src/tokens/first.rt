@@ -1,8 +1,8 @@
 //! What a run begins with.
 ghost use Rattle.std.specs.Prelude.{◌≡◌, ◌∷◌, [], MatchOption, option_map, slice_get};
 ghost use Rattle.token_bytes.specs.Items.{items};
-ghost use Rattle.token_storage.specs.Records.{head_at, head_in, ident_in, leaf_in, literal_in};
-ghost use Rattle.token_storage.specs.Records.{punct_in};
+ghost use Rattle.token_bytes.specs.TokenLists.{head_at, head_in, ident_in, leaf_in, literal_in};
+ghost use Rattle.token_bytes.specs.TokenLists.{punct_in};
 ghost use Rattle.tt_data.specs.Lent.{ident_lent, leaf_lent};
 ghost use Rattle.tt_data.specs.Spans.{first_span_of};
 

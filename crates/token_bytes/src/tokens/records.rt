@@ -1,11 +1,13 @@
 //! The records of a run.
 ghost use Rattle.std.specs.Prelude.{◌≡◌, ◌↔◌, ◌∷◌, ◌<◌, ◌≤◌, ◌^◌, [], IsTrue};
-ghost use Rattle.std.specs.Prelude.{drop, false, option_map};
+ghost use Rattle.std.specs.Prelude.{drop, false, length, option_map};
 ghost use Rattle.token_bytes.specs.Items.{items, records_in, texts_in};
 ghost use Rattle.token_bytes.specs.Packing.{tokens_in};
 ghost use Rattle.token_bytes.specs.Records.{BeginsWithToken, first_size, first_token};
-ghost use Rattle.token_bytes.specs.Runs.{AreDecoded, run_size, stored_size};
+ghost use Rattle.token_bytes.specs.Marks.{IsPlaceIn};
+ghost use Rattle.token_bytes.specs.Runs.{AreDecoded, BeginAt, run_size, stored_size};
 
+use crate::mark::Place;
 use crate::reading::{first_head, first_leaf, first_size, from};
 use crate::stored::Stored;
 use crate::tokens::Tokens;
@@ -29,11 +31,34 @@ fn run_size(_table: &[Symbol], bytes: &[u8], count: usize) -> usize
     size
 }
 
+// The bytes of `count` records that begin at a byte, with `before` records before it. Where more
+// than 64 come, most are passed by what is noted of the records.
+#[inline(never)]
+fn passed_size(stored: &Stored, at: usize, before: usize, count: usize) -> usize
+    requires at { at ≡ run_size before stored.now.records }
+    requires starts { BeginAt 64 stored.now.starts.items stored.now.records }
+    requires decoded { AreDecoded count stored.now.texts.texts.items
+        (drop at stored.now.records) }
+    requires some { at ≤ length stored.now.records }
+    ensures { result ≡ run_size count (drop at stored.now.records) }
+{
+    let bytes = stored.records.bytes();
+    let table = stored.texts.texts.as_slice();
+    let behind = before + count;
+    let entry = behind / 64;
+    if entry <= before / 64 || stored.starts.len() < entry {
+        return run_size(table, from(bytes, at), count);
+    }
+    let start = stored.starts[entry - 1];
+    start - at + run_size(table, from(bytes, start), behind % 64)
+}
+
 impl<'a> Tokens<'a> {
     /// The first `count` tokens of what is stored.
     #[inline(always)]
     pub(crate) fn of(stored: &'a Stored, count: usize) -> Tokens<'a>
-        requires { AreDecoded count stored.now.texts.texts.items stored.now.records }
+        requires decoded { AreDecoded count stored.now.texts.texts.items stored.now.records }
+        requires starts { BeginAt 64 stored.now.starts.items stored.now.records }
         ensures count { result.count ≡ count }
         ensures bytes { records_in result ≡ stored.now.records }
         ensures items { items result
@@ -42,6 +67,7 @@ impl<'a> Tokens<'a> {
         Tokens {
             stored: Some(stored),
             at: 0,
+            before: 0,
             count,
         }
     }
@@ -146,7 +172,33 @@ impl<'a> Tokens<'a> {
         requires { count < self.count }
         ensures { result ≡ run_size count (records_in self.entry) }
     {
-        run_size(self.table(), self.records(), count)
+        let Some(stored) = self.stored else {
+            unreachable!()
+        };
+        passed_size(stored, self.at, self.before, count)
+    }
+
+    /// A place at most 64 tokens before the end of the first `count`, or before that where no place
+    /// is noted. There is a token between.
+    pub(super) fn place_before(self, count: usize) -> Place
+        requires some { 0 < count }
+        requires within { count ≤ length (items self) }
+        ensures marked { IsPlaceIn result (items self.entry) }
+        ensures before { result.count < count }
+    {
+        // The proof that the sums fit needs this.
+        let _size = self.stored_size();
+        let Some(stored) = self.stored else {
+            return Place::start();
+        };
+        let entry = (self.before + (count - 1)) / 64;
+        if entry <= self.before / 64 || stored.starts.len() < entry {
+            return Place::start();
+        }
+        Place {
+            count: 64 * entry - self.before,
+            bytes: stored.starts[entry - 1] - self.at,
+        }
     }
 
     // The end of the run.
@@ -157,6 +209,7 @@ impl<'a> Tokens<'a> {
         Tokens {
             stored: self.stored,
             at: self.at,
+            before: self.before,
             count: 0,
         }
     }
@@ -173,6 +226,7 @@ impl<'a> Tokens<'a> {
         Tokens {
             stored: self.stored,
             at: self.at + bytes,
+            before: self.before + count,
             count: self.count - count,
         }
     }

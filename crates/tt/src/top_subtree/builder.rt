@@ -1,14 +1,21 @@
 //! Builders of trees.
-ghost use Rattle.std.specs.Prelude.{◌≡◌, ◌≢◌, ◌↔◌, ◌⊎◌, ◌+◌, ◌<◌, ◌^◌, ◌≤◌, ◌++◌, ◌∷◌, [], reverse, length, take, List, Err, Some, None, option_map, map, IfOk, IfErr, IsOk, IsOkUnless, IsSome, IfSome, IsTrue, MatchOption, OnOk, OnErr};
-ghost use Rattle.tt_data.specs.Forest.{size, front};
-ghost use Rattle.tt.specs.BuilderTokens.{here_of, groups_of, start_of, begins_invisible, moved_back, AreHeads, IsHeld, IsListAt, IsNoListAt, IsSettled};
+ghost use Rattle.std.specs.Prelude.{◌≡◌, ◌≢◌, ◌↔◌, ◌⊎◌, ◌+◌, ◌<◌, ◌^◌, ◌≤◌, ◌++◌, ◌∷◌, [], reverse};
+ghost use Rattle.std.specs.Prelude.{length, take, drop, List, Err, Some, None, option_map, map};
+ghost use Rattle.std.specs.Prelude.{IfOk, IfErr, IsOk, IsOkUnless, IsSome, IfSome, IsTrue};
+ghost use Rattle.std.specs.Prelude.{MatchOption, OnOk, OnErr};
+ghost use Rattle.tt_data.specs.Forest.{size, front, preorder};
+ghost use Rattle.tt.specs.Views.{forest};
+ghost use Rattle.tt.specs.BuilderTokens.{alone_where, with_last_alone, here_of, groups_of};
+ghost use Rattle.tt.specs.BuilderTokens.{start_of, begins_invisible, moved_back, AreHeads, IsHeld};
+ghost use Rattle.tt.specs.BuilderTokens.{IsListAt, IsNoListAt, IsSettled};
 ghost use Rattle.tt.specs.Building.{cut_in};
-ghost use Rattle.token_storage.specs.Marks.{IsMarkIn};
+ghost use Rattle.token_bytes.specs.Marks.{IsMarkIn};
 ghost use Rattle.tt_data.specs.fault.TtFault.TheVariants as fault;
 ghost use Rattle.tt_data.specs.declared.leaf.Leaf.{Leaf};
 ghost use Rattle.tt_data.specs.declared.tree.TokenTree.{TokenTree};
 ghost use Rattle.tt_data.specs.declared.tree.TokenTree.TheVariants as token;
-ghost use Rattle.token_storage.specs.Records.{as_head, items};
+ghost use Rattle.token_bytes.specs.Items.{items};
+ghost use Rattle.token_bytes.specs.TokenLists.{as_head};
 ghost use Rattle.std.specs.Iterator.{Drains, Yields, IsFinite};
 
 use crate::flatten::is_tree_end;
@@ -17,7 +24,7 @@ use crate::top_subtree::TopSubtree;
 use crate::view::TokenTreesView;
 use std::alloc::Global;
 use std::marker::Model;
-use token_storage::{Mark, TokenBuffer, Tokens};
+use token_bytes::{Mark, TokenBuffer, Tokens};
 use tt_data::{Delimiter, DelimiterKind, Leaf, Span, Subtree, TokenTree, TtFault};
 
 // The most tokens that a tree may have below its top.
@@ -121,7 +128,8 @@ pub struct TopSubtreeBuilder {
 impl Model for TopSubtreeBuilder {
     ghost use Rattle.std.specs.Prelude.{reverse, length, ◌≤◌, ◌^◌, IfSome};
     ghost use Rattle.tt.specs.Building.{Builder, builder_code};
-    ghost use Rattle.tt.specs.BuilderTokens.{here_of, groups_of, index_of, IsHeld, IsTreeAt, IsSettled, AreMarks};
+    ghost use Rattle.tt.specs.BuilderTokens.{here_of, groups_of, index_of, IsHeld, IsTreeAt};
+    ghost use Rattle.tt.specs.BuilderTokens.{IsSettled, AreMarks};
 
     ghost Value = { Builder };
 
@@ -145,16 +153,18 @@ impl Model for TopSubtreeBuilder {
 
 impl TopSubtreeBuilder {
     ghost use Rattle.tt_data.specs.Forest.{empty};
-    ghost use Rattle.tt.specs.Views.{forest};
     ghost use Rattle.tt.specs.Building.{leaves as leaves_of};
     ghost use Rattle.tt.specs.Tops.{only_group};
-    ghost use Rattle.tt.specs.Building.{pushed, extended, last_alone, opened, closed, count_of, count_in, most_tokens, innermost_group, point_of, cut_back, unwrapped_at};
+    ghost use Rattle.tt.specs.Building.{pushed, extended, last_alone, opened, closed, count_of};
+    ghost use Rattle.tt.specs.Building.{count_in, most_tokens, innermost_group, point_of, cut_back};
+    ghost use Rattle.tt.specs.Building.{unwrapped_at};
 
     /// A builder of a tree with the delimiters `top`, with nothing inside.
     ///
     /// `Memory` is its only error.
     pub fn new(alloc: Global, top: Delimiter) -> Result<TopSubtreeBuilder, TtFault>
-        ensures ok { IfOk result (λ b. b ≡ record { tree = record { top = top; groups = []; here = empty }; last_closed = None }) }
+        ensures ok { IfOk result (λ b. b ≡ record
+            { tree = record { top = top; groups = []; here = empty }; last_closed = None }) }
         ensures memory { IsOkUnless result fault.Memory }
     {
         TopSubtreeBuilder::within(alloc, top, TokenBuffer::new(alloc))
@@ -169,7 +179,8 @@ impl TopSubtreeBuilder {
         top: Delimiter,
         tokens: usize,
     ) -> Result<TopSubtreeBuilder, TtFault>
-        ensures ok { IfOk result (λ b. b ≡ record { tree = record { top = top; groups = []; here = empty }; last_closed = None }) }
+        ensures ok { IfOk result (λ b. b ≡ record
+            { tree = record { top = top; groups = []; here = empty }; last_closed = None }) }
         ensures memory { IsOkUnless result fault.Memory }
     {
         let tokens = TokenBuffer::with_room(alloc, tokens)?;
@@ -184,7 +195,8 @@ impl TopSubtreeBuilder {
         mut tokens: TokenBuffer,
     ) -> Result<TopSubtreeBuilder, TtFault>
         requires { tokens ≡ [] }
-        ensures ok { IfOk result (λ b. b ≡ record { tree = record { top = top; groups = []; here = empty }; last_closed = None }) }
+        ensures ok { IfOk result (λ b. b ≡ record
+            { tree = record { top = top; groups = []; here = empty }; last_closed = None }) }
         ensures memory { IsOkUnless result fault.Memory }
     {
         let first = TokenTree::Subtree(Subtree {
@@ -226,15 +238,11 @@ impl TopSubtreeBuilder {
         ensures ok { OnOk result (self.new.tree ≡ extended self.old.tree (forest tt.entry)) }
         ensures last { self.new.last_closed ≡ self.old.last_closed }
         ensures err { OnErr result (self.new ≡ self.old) }
-        ensures tokens { (result ≡ Err fault.Tokens) ↔ (most_tokens < count_of self.old.tree + size (forest tt.entry)) }
+        ensures tokens { (result ≡ Err fault.Tokens)
+            ↔ (most_tokens < count_of self.old.tree + size (forest tt.entry)) }
         ensures faults { IfErr result (λ e. (e ≡ fault.Memory) ⊎ (e ≡ fault.Tokens)) }
     {
-        let room = MOST_TOKENS + 1 - self.tokens.len();
-        if room < tt.len() {
-            return Err(TtFault::Tokens);
-        }
-        self.tokens.extend(tt.tokens)?;
-        Ok(())
+        self.put(tt, false)
     }
 
     /// Appends these leaves to the innermost open group. The iterator ends.
@@ -242,11 +250,17 @@ impl TopSubtreeBuilder {
     /// It refuses `Tokens` only where the leaves that it asked for would be more than fit below
     /// the top; its one other error is `Memory`.
     pub fn extend<I: IntoIterator<Item = Leaf>>(&mut self, leaves: I) -> Result<(), TtFault>
-        requires { (all : I.IntoIter) → I.into_iter_gives leaves all → I.IntoIter.can_next all × IsFinite (I.IntoIter.remaining all) }
-        ensures ok { OnOk result ((all : I.IntoIter) × (ls : List Leaf) × I.into_iter_gives leaves all × Drains I.IntoIter.next_gives all ls × (self.new.tree ≡ extended self.old.tree (leaves_of ls))) }
+        requires { (all : I.IntoIter) → I.into_iter_gives leaves all →
+            I.IntoIter.can_next all × IsFinite (I.IntoIter.remaining all) }
+        ensures ok { OnOk result ((all : I.IntoIter) × (ls : List Leaf) × I.into_iter_gives leaves
+            all × Drains I.IntoIter.next_gives all ls ×
+            (self.new.tree ≡ extended self.old.tree (leaves_of ls))) }
         ensures last { self.new.last_closed ≡ self.old.last_closed }
         ensures err { OnErr result (self.new ≡ self.old) }
-        ensures tokens { result ≡ Err fault.Tokens → (all : I.IntoIter) × (ls : List Leaf) × (rest : I.IntoIter) × I.into_iter_gives leaves all × Yields I.IntoIter.next_gives all ls rest × (most_tokens < count_of self.old.tree + length ls) }
+        ensures tokens { result ≡ Err fault.Tokens →
+            (all : I.IntoIter) × (ls : List Leaf) × (rest : I.IntoIter) × I.into_iter_gives leaves
+            all × Yields I.IntoIter.next_gives all ls rest ×
+            (most_tokens < count_of self.old.tree + length ls) }
         ensures faults { IfErr result (λ e. (e ≡ fault.Memory) ⊎ (e ≡ fault.Tokens)) }
     {
         let end = self.tokens.end();
@@ -265,25 +279,29 @@ impl TopSubtreeBuilder {
     /// It refuses `Tokens` exactly where there would be more than `u32::MAX` tokens below the top;
     /// its one other error is `Memory`.
     pub fn extend_with_tt_alone(&mut self, tt: TokenTreesView<'_>) -> Result<(), TtFault>
-        ensures ok { OnOk result (self.new.tree ≡ extended self.old.tree (last_alone (forest tt.entry))) }
+        ensures ok { OnOk result (self.new.tree
+            ≡ extended self.old.tree (last_alone (forest tt.entry))) }
         ensures last { self.new.last_closed ≡ self.old.last_closed }
         ensures err { OnErr result (self.new ≡ self.old) }
-        ensures tokens { (result ≡ Err fault.Tokens) ↔ (most_tokens < count_of self.old.tree + size (forest tt.entry)) }
+        ensures tokens { (result ≡ Err fault.Tokens)
+            ↔ (most_tokens < count_of self.old.tree + size (forest tt.entry)) }
         ensures faults { IfErr result (λ e. (e ≡ fault.Memory) ⊎ (e ≡ fault.Tokens)) }
     {
-        self.extend_with_tt(tt)?;
-        if !tt.is_empty() {
-            self.set_last_alone();
-        }
-        Ok(())
+        self.put(tt, true)
     }
 
-    // Makes the last token `Alone`.
-    fn set_last_alone(&mut self)
-        requires { self.old.tree.here ≢ empty }
-        ensures { self.new ≡ record self.old { tree = record self.old.tree { here = last_alone self.old.tree.here } } }
+    // Appends these trees, the very last token `Alone` if it is said so.
+    fn put(&mut self, tt: TokenTreesView<'_>, is_alone: bool) -> Result<(), TtFault>
+        ensures ok { OnOk result (self.new.tree
+            ≡ extended self.old.tree (alone_where is_alone (forest tt.entry))) }
+        ensures last { self.new.last_closed ≡ self.old.last_closed }
+        ensures err { OnErr result (self.new ≡ self.old) }
+        ensures tokens { (result ≡ Err fault.Tokens)
+            ↔ (most_tokens < count_of self.old.tree + size (forest tt.entry)) }
+        ensures faults { IfErr result (λ e. (e ≡ fault.Memory) ⊎ (e ≡ fault.Tokens)) }
     {
-        self.tokens.set_last_alone();
+        put_trees(&mut self.tokens, tt, is_alone)?;
+        Ok(())
     }
 
     /// Opens a group in the innermost open group. It is now the innermost one, with nothing
@@ -432,7 +450,8 @@ impl TopSubtreeBuilder {
     /// memory.
     #[inline(always)]
     pub fn build(self) -> Result<TopSubtree, (TopSubtreeBuilder, TtFault)>
-        ensures ok { IfOk result (λ t. t ≡ record { delimiter = self.tree.top; inner = self.tree.here }) }
+        ensures ok { IfOk result (λ t. t ≡ record
+            { delimiter = self.tree.top; inner = self.tree.here }) }
         ensures err { IfErr result (λ e. (e.0 ≡ self) × (e.1 ≡ TtFault.Place)) }
         ensures built { IsOk result ↔ (self.tree.groups ≡ []) }
     {
@@ -464,14 +483,15 @@ impl TopSubtreeBuilder {
         ensures err { IfErr result (λ e. e.0 ≡ self) }
         ensures place { IfErr result (λ e. (self.tree.groups ≢ []) → e.1 ≡ fault.Place) }
         ensures malformed { IfErr result (λ e. self.tree.groups ≡ [] → e.1 ≡ fault.Malformed) }
-        ensures built { IsOk result ↔ ((self.tree.groups ≡ []) × IsSome (only_group self.tree.here)) }
+        ensures built { IsOk result ↔ ((self.tree.groups ≡ []) × IsSome
+            (only_group self.tree.here)) }
     {
         let open_groups = self.openings.len();
         if open_groups > 0 {
             return Err((self, TtFault::Place));
         }
         let start = self.tokens.past_head(Mark::start());
-        let tokens = self.tokens.tokens().after(start);
+        let tokens = self.tokens.tokens_after(start);
         let inside = TokenTreesView { tokens };
         if !inside.is_one_group() {
             return Err((self, TtFault::Malformed));
@@ -504,16 +524,61 @@ fn put_leaf(tokens: &mut TokenBuffer, leaf: Leaf) -> Result<(), TtFault>
     Ok(())
 }
 
+// Makes the last token `Alone` if it is a punct, unless no token is after this mark.
+fn set_last_alone(tokens: &mut TokenBuffer, from: Mark)
+    requires { IsMarkIn from tokens.old }
+    ensures some { from.count < length tokens.old → tokens.new ≡ with_last_alone tokens.old }
+    ensures none { length tokens.old ≤ from.count → tokens.new ≡ tokens.old }
+{
+    if from.count() < tokens.len() {
+        let last = tokens.mark_after(from, tokens.len() - 1);
+        tokens.set_alone(last);
+    }
+}
+
+// Appends these trees, if there is room below the top, the very last token `Alone` if it is said
+// so. A refused call changes nothing.
+fn put_trees(
+    tokens: &mut TokenBuffer,
+    trees: TokenTreesView<'_>,
+    is_alone: bool,
+) -> Result<(), TtFault>
+    requires { length tokens.old ≤ 2 ^ 32 }
+    ensures ok { OnOk result (tokens.new ≡ tokens.old
+        ++ preorder (alone_where is_alone (forest trees.entry))) }
+    ensures err { OnErr result (tokens.new ≡ tokens.old) }
+    ensures tokens { (result ≡ Err fault.Tokens)
+        ↔ (2 ^ 32 < length tokens.old + size (forest trees.entry)) }
+    ensures room { OnOk result (length tokens.old + size (forest trees.entry) ≤ 2 ^ 32) }
+    ensures faults { IfErr result (λ e. (e ≡ fault.Memory) ⊎ (e ≡ fault.Tokens)) }
+{
+    let room = MOST_TOKENS + 1 - tokens.len();
+    if room < trees.len() {
+        return Err(TtFault::Tokens);
+    }
+    let end = tokens.end();
+    tokens.extend(trees.tokens)?;
+    if is_alone {
+        set_last_alone(tokens, end);
+    }
+    Ok(())
+}
+
 // Appends leaves. If it is refused, some of them may have been appended.
 fn put_leaves<I: IntoIterator<Item = Leaf>>(
     tokens: &mut TokenBuffer,
     leaves: I,
 ) -> Result<(), TtFault>
-    requires finite { (all : I.IntoIter) → I.into_iter_gives leaves all → I.IntoIter.can_next all × IsFinite (I.IntoIter.remaining all) }
+    requires finite { (all : I.IntoIter) → I.into_iter_gives leaves all →
+        I.IntoIter.can_next all × IsFinite (I.IntoIter.remaining all) }
     requires room { length tokens.old ≤ 2 ^ 32 }
-    ensures ok { OnOk result ((all : I.IntoIter) × (ls : List Leaf) × I.into_iter_gives leaves all × Drains I.IntoIter.next_gives all ls × (tokens.new ≡ tokens.old ++ map token.Leaf ls) × (length tokens.new ≤ 2 ^ 32)) }
+    ensures ok { OnOk result ((all : I.IntoIter) × (ls : List Leaf) × I.into_iter_gives leaves all ×
+        Drains I.IntoIter.next_gives all ls × (tokens.new ≡ tokens.old ++ map token.Leaf ls) ×
+        (length tokens.new ≤ 2 ^ 32)) }
     ensures err { OnErr result (take (length tokens.old) tokens.new ≡ tokens.old) }
-    ensures tokens { result ≡ Err fault.Tokens → (all : I.IntoIter) × (ls : List Leaf) × (rest : I.IntoIter) × I.into_iter_gives leaves all × Yields I.IntoIter.next_gives all ls rest × (2 ^ 32 < length tokens.old + length ls) }
+    ensures tokens { result ≡ Err fault.Tokens →
+        (all : I.IntoIter) × (ls : List Leaf) × (rest : I.IntoIter) × I.into_iter_gives leaves all ×
+        Yields I.IntoIter.next_gives all ls rest × (2 ^ 32 < length tokens.old + length ls) }
     ensures faults { IfErr result (λ e. (e ≡ fault.Memory) ⊎ (e ≡ fault.Tokens)) }
 {
     for leaf in leaves {
@@ -579,6 +644,16 @@ fn list_at<'a>(
     Some((list_start(tokens, around), upto))
 }
 
+// The tokens after a mark, of those up to the end of a list.
+fn tokens_behind<'a>(tokens: &'a TokenBuffer, upto: Tokens<'a>, from: Mark) -> Tokens<'a>
+    requires marked { IsMarkIn from tokens.now }
+    requires within { from.count ≤ length (items upto) }
+    requires first { items upto ≡ take (length (items upto)) tokens.now }
+    ensures { items result ≡ drop from.count (items upto.entry) }
+{
+    tokens.tokens_after(from).front(upto.len() - from.count())
+}
+
 // The mark of a restore point, if the point is valid. No closed group lies across `settled`.
 fn point_mark(
     tokens: &TokenBuffer,
@@ -590,8 +665,11 @@ fn point_mark(
     requires heads { AreHeads tokens.now (reverse openings.now) }
     requires room { length tokens.now ≤ 2 ^ 32 }
     requires known { IsMarkIn settled tokens.now }
-    requires settled { IsSettled settled.count (groups_of tokens.now (reverse openings.now)) (here_of tokens.now (reverse openings.now)) }
-    ensures valid { IsSome result ↔ IsSome (cut_in point (groups_of tokens.now (reverse openings.now)) (here_of tokens.now (reverse openings.now))) }
+    requires settled { IsSettled settled.count (groups_of tokens.now (reverse openings.now))
+        (here_of tokens.now (reverse openings.now)) }
+    ensures valid { IsSome result ↔ IsSome
+        (cut_in point (groups_of tokens.now (reverse openings.now))
+        (here_of tokens.now (reverse openings.now))) }
     ensures mark { IfSome result (λ m. IsMarkIn m tokens.now × (m.count ≡ point.tokens + 1)) }
 {
     let count = point.tokens as usize + 1;
@@ -601,7 +679,7 @@ fn point_mark(
         return None;
     }
     let trees = TtIter {
-        tokens: upto.after(from),
+        tokens: tokens_behind(tokens, upto, from),
     };
     if !is_tree_end(trees, count - from.count()) {
         return None;

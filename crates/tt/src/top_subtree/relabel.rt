@@ -3,14 +3,14 @@ ghost use Rattle.std.specs.Prelude.{◌≡◌, ℕ, List, IfOk, IsOkUnless, OnOk
 ghost use Rattle.std.specs.List.{FoldsTo, list_any};
 ghost use Rattle.tt_data.specs.fault.TtFault.TheVariants as fault;
 ghost use Rattle.tt.specs.Anchors.{StandForThemselves};
-ghost use Rattle.token_storage.specs.Anchors.{answer_in};
-ghost use Rattle.token_storage.specs.Records.{items};
+ghost use Rattle.token_bytes.specs.Anchors.{answer_in};
+ghost use Rattle.token_bytes.specs.Items.{items};
 ghost use Rattle.tt.specs.Relabelling.{Answers, AnswersBy, anchors_in, anchors_of, anchors_of_brackets, asked_about, by_first_use, met_after, relabelled, renamed, with_anchor};
 
 use crate::top_subtree::TopSubtree;
 use std::alloc::{AllocError, Global};
 use std::collections::HashMap;
-use token_storage::{Renaming, Tokens};
+use token_bytes::{Renaming, Tokens};
 use tt_data::{Delimiter, TtFault};
 
 impl TopSubtree {

@@ -7,7 +7,7 @@ ghost use Rattle.tt_data.specs.declared.tree.TokenTree.TheVariants as token;
 ghost use Rattle.tt.specs.Building.{count_of, most_tokens};
 ghost use Rattle.tt.specs.Rewriting.{Call, IsAnswered, IsRewritten, IsStarted, LeavesOneGroup, replacement, with_answer};
 ghost use Rattle.tt.specs.Tops.{Top, forest_of_top, only_group};
-ghost use Rattle.token_storage.specs.Records.{items};
+ghost use Rattle.token_bytes.specs.Items.{items};
 ghost use Rattle.tt.specs.Views.{forest};
 ghost use Rattle.tt.specs.Walking.{IsNested, LeavesGroup, after_in, behind, entered, standing, work_of};
 
@@ -15,7 +15,7 @@ use crate::top_subtree::TopSubtree;
 use crate::top_subtree::builder::TopSubtreeBuilder;
 use crate::view::TokenTreesView;
 use std::alloc::{AllocError, Global};
-use token_storage::Tokens;
+use token_bytes::Tokens;
 use tt_data::{Delimiter, Leaf, Span, Subtree, TokenTree, TtFault};
 
 /// What becomes of a token that a walk has reached.

@@ -1,6 +1,6 @@
 use Rattle.std.proofs.Common.{◌≡◌, ◌++◌, drop}
 use Rattle.std.specs.Prelude.{flat_map}
-use Rattle.replay_script.specs.Picks.{picks_of_source}
+use Rattle.crate_picks.specs.SourcePicks.{picks_of_source}
 use Rattle.program_files.proofs.picks.push_sources.Given as goal
 
 abbrev pub invariant-loop-source : goal.invariant-loop-source

@@ -8,7 +8,7 @@ abbrev pub invariant-loop-lines : goal.invariant-loop-lines
 invariant-loop-lines g l =
     (l.writer.failed ≡ false)
     × ((told : List ℕ)
-    × Far (g.G.FragmentGrammar.answer) l.fn.session.grammar l.fn.session.edition l.fn.session.dialect l.fn.session.depth l.fn.session.prelude l.session l.sources
+    × Far (g.G.FragmentGrammar.answer) l.fn.session.grammar l.fn.session.edition l.fn.session.dialect l.fn.session.depth l.fn.session.prelude l.fn.form l.session l.sources
     (g.R.Read.remaining l.fn.reader) (g.R.Read.remaining l.reader) l.lines l.origins told
     × Appends (g.W.Write.contents l.fn.writer.inner) (g.W.Write.contents l.writer.inner) told)
 

@@ -1,5 +1,5 @@
 use Rattle.std.proofs.Common.{◌∙◌, ap, arith, drop, inl, inr}
-use Rattle.token_storage.specs.Anchors.{answer_of}
+use Rattle.token_bytes.specs.Anchors.{answer_of}
 use Rattle.token_bytes.specs.Records.{first_size}
 use Rattle.token_bytes.proofs.PatchLemmas.{record_renamed, size_at}
 use Rattle.token_bytes.proofs.in_place.relabel_record.Goals.{then-size-eq31, else-size-eq31}

@@ -1,4 +1,5 @@
-use Rattle.token_bytes.proofs.PackingLemmas.{added, length-records, records-append, same_stored, table_after-added, table_after-append, tokens_in-records}
+use Rattle.token_bytes.proofs.EqualLemmas.{same_stored}
+use Rattle.token_bytes.proofs.PackingLemmas.{added, length-records, records-append, table_after-added, table_after-append, tokens_in-records}
 use Rattle.token_bytes.proofs.laws.stored_tokens.Goals as goal
 
 pub returns-clause-back : goal.returns-clause-back

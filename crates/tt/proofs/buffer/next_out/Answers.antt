@@ -1,7 +1,7 @@
 use Rattle.std.proofs.Common.{◌≡◌, All, subst, sym, arith}
 use Rattle.std.proofs.lemmas.List.Elements.{All-take}
 use Rattle.tt.specs.CursorTokens.{IsKept}
-use Rattle.token_storage.specs.Records.{items}
+use Rattle.token_bytes.specs.Items.{items}
 use Rattle.tt.proofs.KeptLemmas.{holds_at}
 use Rattle.tt.proofs.buffer.next_out.Goals as goal
 use Rattle.tt.proofs.buffer.next_out.Goals.{After-pop}

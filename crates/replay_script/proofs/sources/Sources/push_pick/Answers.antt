@@ -1,6 +1,6 @@
 use Rattle.std.proofs.Common.{ap, sym, ◌∙◌, ◌++◌, List, append_assoc, arith, length, length-append}
 use Rattle.tt_data.specs.Forest.{Forest}
-use Rattle.replay_script.specs.Picks.{behind_own}
+use Rattle.crate_picks.specs.SourcePicks.{behind_own}
 use Rattle.replay_script.specs.SourceTables.{source_in}
 use Rattle.replay_script.proofs.PushLemmas.{pick_made}
 use Rattle.replay_script.proofs.sources.Sources.push_pick.Goals as goal

@@ -1,8 +1,11 @@
 -- Record by record.
-use Rattle.std.proofs.Common.{◌≡◌, ◌∙◌, ◌-◌, ap, arith, length, subst, suc, sym}
-use Rattle.token_storage.specs.Anchors.{answer_of}
+use Rattle.std.proofs.Common.{◌≡◌, ◌∙◌, ◌-◌, ap, arith, length, map, subst, suc, sym}
+use Rattle.token_bytes.specs.Anchors.{answer_of}
 use Rattle.token_bytes.proofs.MarkLemmas.{length-tokens_in}
-use Rattle.token_bytes.proofs.RelabelLemmas.{RelabelledTo, all_done, none_yet, turn}
+use Rattle.token_bytes.specs.Relabelled.{renamed_token}
+use Rattle.token_bytes.specs.Starts.{AreStarts}
+use Rattle.token_bytes.proofs.RelabelLemmas.{RelabelledTo, alike_renamed, all_done, none_yet, turn}
+use Rattle.token_bytes.proofs.StartLemmas.{starts_alike, starts_held}
 use Rattle.token_bytes.proofs.buffer.TokenBuffer.relabel.Goals as goal
 
 pub loop-left-init : goal.loop-left-init
@@ -17,6 +20,7 @@ loop-left-init c =
       omega arith,
       c.self.invariant.1,
       sym (length-tokens_in n table bytes) ∙ ap length c.self.view_is,
+      subst (AreStarts 64 c.self.inside.stored.starts.items) c.self.view_is c.self.invariant.2,
     )
 
 pub relabel_record-at-requires-clause-record : goal.relabel_record-at-requires-clause-record
@@ -38,6 +42,7 @@ loop-left-preserved c =
       omega (arith, c.loop-left.invariant.1),
       c.loop-left.invariant.2,
       c.loop-left.invariant.3,
+      c.loop-left.invariant.4,
     )
 
 pub returns : goal.returns
@@ -46,3 +51,13 @@ returns c =
     let s = c.loop-left.self-inside in
     let all : s.count - c.loop-left.left ≡ length c.args.self.now = omega (arith, c.loop-left-test.false, c.loop-left.invariant.3) in
     (all_done h c.args.self.now (s.count - c.loop-left.left) c.loop-left.at s.count s.stored.records s.stored.texts.texts.items all c.loop-left.invariant.0).shown
+
+pub invariant_of-self : goal.invariant_of-self
+invariant_of-self c =
+    let h = answer_of c.args.renaming.now in
+    let s = c.loop-left.self-inside in
+    let ts = c.args.self.now in
+    let all : s.count - c.loop-left.left ≡ length ts = omega (arith, c.loop-left-test.false, c.loop-left.invariant.3) in
+    let held = all_done h ts (s.count - c.loop-left.left) c.loop-left.at s.count s.stored.records s.stored.texts.texts.items all c.loop-left.invariant.0 in
+    let kept = starts_alike 64 s.stored.starts.items ts (map (renamed_token h) ts) (alike_renamed h ts) c.loop-left.invariant.4 in
+    (held.packed, c.loop-left.invariant.2, starts_held (map (renamed_token h) ts) _ _ _ _ held kept)

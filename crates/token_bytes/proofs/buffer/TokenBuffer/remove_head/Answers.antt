@@ -1,11 +1,13 @@
 -- A head has 31 bytes, and no text.
-use Rattle.std.proofs.Common.{◌≡◌, ◌∙◌, ◌++◌, ◌+◌, ◌-◌, List, ℕ, ap, sym, subst, arith, length, take, drop}
+use Rattle.std.proofs.Common.{◌≡◌, ◌∙◌, ◌++◌, ◌+◌, ◌-◌, ◌/◌, List, ℕ, ap, sym, subst, arith, length, take, drop}
 use Rattle.tt_data.specs.declared.tree.TokenTree.{TokenTree}
 use Rattle.token_bytes.specs.Marks.{IsHeadIn}
 use Rattle.token_bytes.specs.Packed.{ArePacked}
 use Rattle.token_bytes.specs.Packing.{tokens_in}
 use Rattle.token_bytes.specs.declared.mark.Mark.{Mark}
 use Rattle.token_bytes.proofs.MarkLemmas.{Holds, IsHeadIn-mark, Without, head_there, length-tokens_in, removed}
+use Rattle.token_bytes.specs.Starts.{AreStarts}
+use Rattle.token_bytes.proofs.StartLemmas.{starts_append, starts_cut, starts_held}
 use Rattle.token_bytes.proofs.buffer.TokenBuffer.remove_head.Goals as goal
 
 without : (at : Mark) (ts : List TokenTree) (n : ℕ) (bytes : List ℕ) (table : List (List ℕ)) → ArePacked (tokens_in n table bytes) bytes table
@@ -35,7 +37,15 @@ overflow_sub-self c = omega (
 )
 
 pub invariant_of-self : goal.invariant_of-self
-invariant_of-self c = ((held _ _ _ _ _ _ c.self.invariant.0 c.self.view_is c.requires c.cut_out.ensures).packed, c.self.invariant.1)
+invariant_of-self c =
+    let ts = c.args.self.now in
+    let n = c.args.at.count in
+    let left = held _ _ _ _ _ _ c.self.invariant.0 c.self.view_is c.requires c.cut_out.ensures in
+    let starts = subst (AreStarts 64 c.self.inside.stored.starts.items) c.self.view_is c.self.invariant.2 in
+    let fewer = starts_cut (n / 64) 64 n c.self.inside.stored.starts.items ts (omega arith) starts in
+    let cut = subst (λ l. AreStarts 64 l (take n ts ++ drop (n + 1) ts)) (sym c.truncate.ensures.items)
+    (starts_append 64 (take (n / 64) c.self.inside.stored.starts.items) (take n ts) (drop (n + 1) ts) fewer) in
+    (left.packed, c.self.invariant.1, starts_held (take n ts ++ drop (n + 1) ts) _ _ _ _ left cut)
 
 pub returns : goal.returns
 returns c = (held _ _ _ _ _ _ c.self.invariant.0 c.self.view_is c.requires c.cut_out.ensures).shown

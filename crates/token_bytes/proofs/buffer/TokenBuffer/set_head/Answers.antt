@@ -4,6 +4,9 @@ use Rattle.tt_data.specs.declared.tree.TokenTree.TheVariants as token
 use Rattle.token_bytes.specs.Records.{token_bytes}
 use Rattle.token_bytes.specs.Packed.{ArePacked}
 use Rattle.token_bytes.proofs.MarkLemmas.{Holds, IsHeadIn-mark, head_there, length-tokens_in, set_at_head}
+use Rattle.token_bytes.specs.Starts.{AreStarts}
+use Rattle.token_bytes.proofs.MarkChanges.{alike_head}
+use Rattle.token_bytes.proofs.StartLemmas.{starts_alike, starts_held}
 use Rattle.token_bytes.proofs.buffer.TokenBuffer.set_head.Goals as goal
 
 pub patch-requires : goal.patch-requires
@@ -28,7 +31,12 @@ held c =
     (subst (λ n. Holds now n (take c.args.at.bytes bytes ++ (token_bytes 0 (token.Subtree c.args.head) ++ drop (c.args.at.bytes + 31) bytes)) table) counted s.after)
 
 pub invariant_of-self : goal.invariant_of-self
-invariant_of-self c = ((held c).packed, c.self.invariant.1)
+invariant_of-self c =
+    let ts = c.args.self.now in
+    let now = set ts c.args.at.count (token.Subtree c.args.head) in
+    let starts = subst (AreStarts 64 c.self.inside.stored.starts.items) c.self.view_is c.self.invariant.2 in
+    let kept = starts_alike 64 c.self.inside.stored.starts.items ts now (alike_head ts c.args.at.count c.args.head (head_there _ _ c.requires)) starts in
+    ((held c).packed, c.self.invariant.1, starts_held now _ _ _ _ (held c) kept)
 
 pub returns : goal.returns
 returns c = (held c).shown

@@ -8,7 +8,7 @@ pub invariant_of-result : goal.invariant_of-result
 invariant_of-result c =
     let t = c.args.self in
     let parts : t.count ≡ c.args.count + (t.count - c.args.count) = omega (arith, c.requires, length-items t) in
-    record { decoded = decoded_first c.args.count (t.count - c.args.count) t.count (texts_in t) (records_in t) parts t.decoded }
+    record { decoded = decoded_first c.args.count (t.count - c.args.count) t.count (texts_in t) (records_in t) parts t.decoded; known = t.known }
 
 pub returns : goal.returns
 unfolding items

@@ -1,5 +1,5 @@
 use Rattle.std.proofs.Common.{◌≡◌, ◌∙◌, ◌-◌, ◌+◌, ◌<◌, ap, arith}
-use Rattle.token_storage.specs.Records.{head_at}
+use Rattle.token_bytes.specs.TokenLists.{head_at}
 use Rattle.token_bytes.specs.Items.{items}
 use Rattle.token_bytes.proofs.MarkLemmas.{head_at-drop}
 use Rattle.token_bytes.proofs.TokensLemmas.{before_head}

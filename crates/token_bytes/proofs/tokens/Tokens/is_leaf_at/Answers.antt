@@ -1,6 +1,6 @@
 use Rattle.std.proofs.Common.{◌∙◌, ap, arith, is_some, sym}
 use Rattle.tt_data.specs.Lent.{leaf_lent}
-use Rattle.token_storage.specs.Records.{leaf_in}
+use Rattle.token_bytes.specs.TokenLists.{leaf_in}
 use Rattle.token_bytes.specs.Items.{items}
 use Rattle.token_bytes.proofs.TokensLemmas.{leaf_drop, length-items, no_leaf, some_first}
 use Rattle.token_bytes.proofs.tokens.Tokens.is_leaf_at.Goals as goal

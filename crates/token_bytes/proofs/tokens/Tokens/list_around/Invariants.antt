@@ -1,13 +1,11 @@
-use Rattle.std.proofs.Common.{◌≡◌, ◌-◌, ◌≤◌, ℕ}
-use Rattle.token_storage.specs.Lists.{IsTreeOf}
+use Rattle.std.proofs.Common.{◌≤◌, ℕ}
 use Rattle.token_bytes.specs.Items.{items}
-use Rattle.token_bytes.specs.Marks.{IsPlaceIn}
+use Rattle.token_bytes.specs.Lists.{IsTreeOf}
 use Rattle.token_bytes.proofs.tokens.Tokens.list_around.Given as goal
 
--- a list that begins no later than where the walk is begins at what was found
-abbrev pub invariant-loop-at : goal.invariant-loop-at
-invariant-loop-at l = IsPlaceIn l.found (items l.self) × IsPlaceIn l.at (items l.self) × (l.at.count ≤ l.head)
-    × ((start : ℕ) → IsTreeOf (items l.self) l.head start → start ≤ l.at.count → l.found.count ≡ start)
+-- the list begins no later than where the search is
+abbrev pub invariant-loop-upto : goal.invariant-loop-upto
+invariant-loop-upto l = (l.upto ≤ l.head) × ((start : ℕ) → IsTreeOf (items l.self) l.head start → start ≤ l.upto)
 
-abbrev pub decreases-loop-at : goal.decreases-loop-at
-decreases-loop-at l = l.head - l.at.count
+abbrev pub decreases-loop-upto : goal.decreases-loop-upto
+decreases-loop-upto l = l.upto

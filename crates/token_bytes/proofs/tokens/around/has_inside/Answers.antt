@@ -1,5 +1,5 @@
 use Rattle.std.proofs.Common.{◌∙◌}
-use Rattle.token_storage.proofs.ListLemmas.{reach_none, reach_some}
+use Rattle.token_bytes.proofs.ListLemmas.{reach_none, reach_some}
 use Rattle.token_bytes.proofs.tokens.around.has_inside.Goals as goal
 
 pub returns-in-None : goal.returns-in-None

@@ -1,6 +1,6 @@
 use Rattle.std.proofs.Common.{◌≡◌, ◌∙◌, sym, ap, arith, length}
 use Rattle.tt_data.specs.Forest.{preorder}
-use Rattle.token_storage.specs.Records.{items}
+use Rattle.token_bytes.specs.Items.{items}
 use Rattle.tt.specs.Views.{forest}
 use Rattle.tt.proofs.CursorLemmas.{stood, rest_at_root, rest_in_group, shows}
 use Rattle.tt.proofs.buffer.Cursor.after.Goals as goal

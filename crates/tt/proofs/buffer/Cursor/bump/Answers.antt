@@ -1,7 +1,7 @@
 use Rattle.std.proofs.Common.{◌≡◌, ◌+◌, arith, Some}
 use Rattle.tt_data.specs.declared.leaf.Leaf.{Leaf}
 use Rattle.tt_data.specs.declared.tree.TokenTree.TheVariants as token
-use Rattle.token_storage.specs.Records.{items}
+use Rattle.token_bytes.specs.Items.{items}
 use Rattle.tt.specs.Views.{forest}
 use Rattle.tt.specs.Places.{first_token, bumped}
 use Rattle.tt.specs.CursorTokens.{Stands}

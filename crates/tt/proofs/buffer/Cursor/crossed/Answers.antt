@@ -1,6 +1,6 @@
 use Rattle.std.proofs.Common.{◌≡◌, ◌∙◌, arith}
 use Rattle.tt_data.specs.Forest.{preorder}
-use Rattle.token_storage.specs.Records.{items}
+use Rattle.token_bytes.specs.Items.{items}
 use Rattle.tt.specs.Views.{forest}
 use Rattle.tt.proofs.CursorLemmas.{stood, crossed_at_root, shows}
 use Rattle.tt.proofs.FrameLemmas.{fits}

@@ -1,6 +1,6 @@
 use Rattle.tt.specs.Places.{ended}
 use Rattle.tt.specs.CursorTokens.{Stands}
-use Rattle.token_storage.specs.Records.{items}
+use Rattle.token_bytes.specs.Items.{items}
 use Rattle.tt.proofs.CursorLemmas.{stood, left, begins_next}
 use Rattle.tt.proofs.CursorReads.{some_around}
 use Rattle.tt.proofs.PlaceLemmas.{found, placed}

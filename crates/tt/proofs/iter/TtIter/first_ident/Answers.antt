@@ -1,6 +1,6 @@
 use Rattle.std.proofs.Common.{◌∙◌}
 use Rattle.tt.specs.FirstTrees.{first_ident}
-use Rattle.token_storage.specs.Records.{ident_in}
+use Rattle.token_bytes.specs.TokenLists.{ident_in}
 use Rattle.tt.proofs.RecordLemmas.{found, missing, same_ident}
 use Rattle.tt.proofs.iter.TtIter.first_ident.Goals as goal
 

@@ -1,6 +1,6 @@
 use Rattle.std.proofs.Common.{◌∙◌}
 use Rattle.tt.specs.FirstTrees.{first_leaf}
-use Rattle.token_storage.specs.Records.{leaf_in}
+use Rattle.token_bytes.specs.TokenLists.{leaf_in}
 use Rattle.tt.proofs.RecordLemmas.{found, missing, same_leaf}
 use Rattle.tt.proofs.iter.TtIter.first_leaf.Goals as goal
 

@@ -1,6 +1,6 @@
 use Rattle.std.proofs.Common.{◌∙◌}
 use Rattle.tt.specs.FirstTrees.{first_literal}
-use Rattle.token_storage.specs.Records.{literal_in}
+use Rattle.token_bytes.specs.TokenLists.{literal_in}
 use Rattle.tt.proofs.RecordLemmas.{found, missing, same_literal}
 use Rattle.tt.proofs.iter.TtIter.first_literal.Goals as goal
 

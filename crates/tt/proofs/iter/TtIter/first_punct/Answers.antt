@@ -1,6 +1,6 @@
 use Rattle.std.proofs.Common.{◌∙◌}
 use Rattle.tt.specs.FirstTrees.{first_punct}
-use Rattle.token_storage.specs.Records.{punct_in}
+use Rattle.token_bytes.specs.TokenLists.{punct_in}
 use Rattle.tt.proofs.RecordLemmas.{found, missing, same_punct}
 use Rattle.tt.proofs.iter.TtIter.first_punct.Goals as goal
 

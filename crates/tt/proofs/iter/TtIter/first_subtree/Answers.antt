@@ -1,7 +1,7 @@
 use Rattle.std.proofs.Common.{ℕ, Some, ap, sym, ◌∙◌}
 use Rattle.tt_data.specs.Forest.{forest_of}
 use Rattle.tt.specs.FirstTrees.{first_subtree}
-use Rattle.token_storage.specs.Records.{items}
+use Rattle.token_bytes.specs.Items.{items}
 use Rattle.tt.proofs.RecordLemmas.{head_in-is, no_head-subtree}
 use Rattle.tt.proofs.Steps.{Step, step, fits}
 use Rattle.tt.proofs.iter.TtIter.first_subtree.Goals as goal

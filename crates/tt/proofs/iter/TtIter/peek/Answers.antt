@@ -4,7 +4,7 @@ use Rattle.tt_data.specs.Forest.{Forest, group, size}
 use Rattle.tt_data.specs.declared.tree.Subtree.{Subtree}
 use Rattle.tt.specs.Elements.{first_element}
 use Rattle.tt.specs.declared.iter.TtElement.TheVariants as element
-use Rattle.token_storage.specs.Records.{items}
+use Rattle.token_bytes.specs.Items.{items}
 use Rattle.tt.proofs.Steps.{Step, step, fits}
 use Rattle.tt.proofs.iter.TtIter.peek.Goals as goal
 use Rattle.tt.proofs.iter.TtIter.peek.Goals.{After-front-inner}

@@ -1,6 +1,6 @@
 use Rattle.std.proofs.Common.{◌∷◌, length, arith, ap, sym, ◌∙◌}
 use Rattle.tt.specs.Elements.{elements}
-use Rattle.token_storage.specs.Records.{items}
+use Rattle.token_bytes.specs.Items.{items}
 use Rattle.tt.proofs.Steps.{Step, step, fits}
 use Rattle.tt.proofs.iter.TtIterIterator.next.Goals as goal
 

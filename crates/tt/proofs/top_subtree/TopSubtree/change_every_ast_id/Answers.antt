@@ -1,7 +1,7 @@
 -- The tree is what its tokens hold, and each token has the anchor that the entries give.
 use Rattle.std.proofs.Common.{◌≡◌, ◌∙◌, ℕ, List, ap}
 use Rattle.std.proofs.lemmas.List.{length-map}
-use Rattle.token_storage.specs.Anchors.{answer_in, answer_of}
+use Rattle.token_bytes.specs.Anchors.{answer_in, answer_of}
 use Rattle.tt.specs.Relabelling.{anchors_of, relabelled, renamed}
 use Rattle.tt_data.specs.Spans.{anchor_with}
 use Rattle.tt.specs.Tops.{tree_of}

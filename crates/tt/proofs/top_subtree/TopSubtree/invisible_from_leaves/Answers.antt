@@ -1,4 +1,4 @@
-use Rattle.std.proofs.Common.{◌≡◌, ◌∷◌, ◌++◌, [], ◌∙◌, ap, sym, refl, arith, length, map, List, append-nil, append_assoc}
+use Rattle.std.proofs.Common.{◌≡◌, ◌∷◌, ◌++◌, [], ◌∙◌, ap, sym, refl, arith, length, map, List, append-nil, append_assoc, length-append}
 use Rattle.std.proofs.lemmas.List.{length-map}
 use Rattle.std.specs.Array.Iter.{array_into_iter_items}
 use Rattle.tt_data.specs.Forest.{head_of, preorder}
@@ -18,6 +18,27 @@ loop-leaf-preserved g c =
     ∙ append_assoc c.loop-leaf.tokens (token.Leaf c.in-Some.leaf ∷ []) left
     ∙ ap (λ ls. c.loop-leaf.tokens ++ map token.Leaf ls) (sym c.in-Some.ensures.steps)
     ∙ c.loop-leaf.invariant
+
+pub push-requires-in-loop-leaf : goal.push-requires-in-loop-leaf
+push-requires-in-loop-leaf g c =
+    let left = array_into_iter_items c.loop-leaf.leaf-iterator in
+    let all = array_into_iter_items c.into_iter-leaf-iterator.result in
+    let given = c.into_iter-leaf-iterator.ensures.into_iter_gives in
+    let head = c.in_ok-push.ensures.ok ∙ ap (λ ts. ts ++ head_of c.invisible_spanned-delimiter.result c.in-Ok.len ∷ []) c.new-tokens.ensures in
+    record {
+      room = omega (
+        arith,
+        ap length c.loop-leaf.invariant,
+        length-append c.loop-leaf.tokens (map token.Leaf left),
+        length-map left token.Leaf,
+        ap length c.in-Some.ensures.steps,
+        length-append c.push.new.self (map token.Leaf all),
+        length-map all token.Leaf,
+        ap length head,
+        given.1,
+        c.in-Ok.ensures.0,
+      );
+    }
 
 none : (ls : List Leaf) → length ls ≡ 0 → ls ≡ []
 none [] e = refl

@@ -2,7 +2,7 @@ use Rattle.std.proofs.Common.{◌≡◌, ◌∙◌, ap, sym, true, set}
 use Rattle.std.proofs.lemmas.List.{length-set}
 use Rattle.tt_data.specs.declared.tree.TokenTree.TheVariants as token
 use Rattle.tt.specs.Tops.{IsOneGroup, tokens_of}
-use Rattle.token_storage.specs.Records.{has_leaf_at}
+use Rattle.token_bytes.specs.TokenLists.{has_leaf_at}
 use Rattle.tt.proofs.Replacing.{set_one}
 use Rattle.tt.proofs.top_subtree.TopSubtree.set_token.Goals as goal
 

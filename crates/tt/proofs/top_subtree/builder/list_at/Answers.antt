@@ -1,6 +1,6 @@
 use Rattle.std.proofs.Common.{◌≡◌, ◌-◌, ◌<◌, refl, arith, reverse, length, sym, ◌∙◌}
 use Rattle.std.proofs.lemmas.List.{length-reverse, take_all}
-use Rattle.token_storage.specs.Records.{items}
+use Rattle.token_bytes.specs.Items.{items}
 use Rattle.tt.proofs.HeldMarks.{heads_kept}
 use Rattle.tt.proofs.Points.{fewer_first, fewer_openings, last_fits, outer_step, list_here, list_none}
 use Rattle.tt.proofs.top_subtree.builder.list_at.Goals as goal

@@ -1,6 +1,6 @@
 use Rattle.std.proofs.Common.{◌≡◌, ◌≤◌, ◌^◌, reverse, length, take}
 use Rattle.tt.specs.Building.{list_in}
-use Rattle.token_storage.specs.Records.{items}
+use Rattle.token_bytes.specs.Items.{items}
 use Rattle.tt.specs.BuilderTokens.{here_of, groups_of, AreHeads, IsHeld}
 use Rattle.tt.proofs.top_subtree.builder.list_at.Given as goal
 

@@ -1,6 +1,6 @@
 use Rattle.std.proofs.Common.{◌≡◌, length}
 use Rattle.tt.specs.Anchors.{StandForThemselves}
-use Rattle.token_storage.specs.Records.{items}
+use Rattle.token_bytes.specs.Items.{items}
 use Rattle.tt.specs.Relabelling.{anchors_in, met_after}
 use Rattle.tt.proofs.top_subtree.relabel.meet_all.Given as goal
 

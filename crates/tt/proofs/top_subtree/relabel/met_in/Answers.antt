@@ -2,7 +2,7 @@ use Rattle.std.proofs.Common.{◌≡◌, ◌∙◌, [], ap, sym, subst, nat_eq}
 use Rattle.std.specs.List.{IsDistinct}
 use Rattle.tt_data.specs.Forest.{preorder}
 use Rattle.tt.specs.Anchors.{Tells}
-use Rattle.token_storage.specs.Records.{items}
+use Rattle.token_bytes.specs.Items.{items}
 use Rattle.tt.specs.Relabelling.{anchors_in, anchors_of, anchors_of_brackets, met_after, by_first_use}
 use Rattle.tt.specs.Views.{forest, top_of}
 use Rattle.tt.proofs.RelabellingLemmas.{met_after-append, nothing_tells, no_repeats}

@@ -1,5 +1,5 @@
 use Rattle.std.proofs.Common.{◌-◌, refl, arith, length, reverse}
-use Rattle.token_storage.specs.Records.{items}
+use Rattle.token_bytes.specs.Items.{items}
 use Rattle.tt.specs.declared.top_subtree.transform.Kept.{Kept}
 use Rattle.tt.proofs.NestingLemmas.{group_first, inside, stacked}
 use Rattle.tt.proofs.top_subtree.transform.enter.Goals as goal

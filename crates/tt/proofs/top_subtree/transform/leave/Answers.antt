@@ -1,5 +1,5 @@
 use Rattle.std.proofs.Common.{◌≡◌, ◌∷◌, [], refl, arith, ap, length, length-append, reverse}
-use Rattle.token_storage.specs.Records.{items}
+use Rattle.token_bytes.specs.Items.{items}
 use Rattle.tt.specs.Walking.{left_in}
 use Rattle.tt.proofs.NestingLemmas.{left, stacked}
 use Rattle.tt.proofs.top_subtree.transform.leave.Goals as goal

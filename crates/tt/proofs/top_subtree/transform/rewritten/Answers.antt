@@ -4,7 +4,7 @@ use Rattle.std.proofs.lemmas.List.{nil_from_length, length-reverse}
 use Rattle.tt_data.specs.Forest.{Forest, empty, forest_of, group, leaf}
 use Rattle.tt_data.specs.declared.tree.TokenTree.TheVariants as token
 use Rattle.tt.specs.Building.{Builder}
-use Rattle.token_storage.specs.Records.{items}
+use Rattle.token_bytes.specs.Items.{items}
 use Rattle.tt.specs.Rewriting.{IsRewritten, with_answer}
 use Rattle.tt.specs.Tops.{Top}
 use Rattle.tt.specs.Views.{forest}

@@ -1,6 +1,6 @@
 use Rattle.std.proofs.Common.{List, ◌+◌, ◌*◌, length, reverse}
 use Rattle.std.specs.List.{FoldsTo}
-use Rattle.token_storage.specs.Records.{items}
+use Rattle.token_bytes.specs.Items.{items}
 use Rattle.tt.specs.Rewriting.{Call, IsAnswered}
 use Rattle.tt.specs.Views.{forest}
 use Rattle.tt.specs.Walking.{IsNested, around_in, left_in}

@@ -1,7 +1,7 @@
 use Rattle.std.proofs.Common.{ap, length, ◌∙◌, sym}
 use Rattle.tt_data.specs.Forest.{forest_of}
 use Rattle.tt_data.specs.Flat.{length-preorder}
-use Rattle.token_storage.specs.Records.{items}
+use Rattle.token_bytes.specs.Items.{items}
 use Rattle.tt.specs.Views.{forest}
 use Rattle.tt.proofs.view.TokenTreesView.len.Goals as goal
 

@@ -3,7 +3,7 @@ use Rattle.tt_data.specs.Forest.{preorder}
 use Rattle.tt.specs.Building.{leaves}
 use Rattle.tt.specs.BuilderTokens.{index_of}
 use Rattle.tt.proofs.HeldMarks.{marks_append}
-use Rattle.token_storage.proofs.MarkLemmas.{first_marked}
+use Rattle.token_bytes.proofs.MarkLemmas.{first_marked}
 use Rattle.tt.proofs.Closings.{IsTreeAt-append}
 use Rattle.tt.proofs.Held.{IsHeld-append, here_of-append, groups_of-append}
 use Rattle.tt.proofs.Limits.{counted}
@@ -31,7 +31,7 @@ invariant_of-self g c =
     )
 
 pub cut_back-requires : goal.cut_back-requires
-cut_back-requires g c = rw c.end-end.ensures (first_marked c.self.inside.tokens _ c.in-Err.ensures.err)
+cut_back-requires g c = first_marked _ c.self.inside.tokens _ c.end-end.ensures c.in-Err.ensures.err
 
 pub returns-in-Ok-clause-ok : goal.returns-in-Ok-clause-ok
 returns-in-Ok-clause-ok g c =

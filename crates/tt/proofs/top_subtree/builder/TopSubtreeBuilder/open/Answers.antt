@@ -1,9 +1,9 @@
 use Rattle.std.proofs.Common.{◌≡◌, List, ◌∷◌, length, reverse, refl, arith, ap, length-append}
 use Rattle.tt.specs.declared.top_subtree.builder.Opening.{Opening}
 use Rattle.tt_data.specs.declared.tree.TokenTree.{TokenTree}
-use Rattle.token_storage.specs.declared.mark.Mark.{Mark}
+use Rattle.token_bytes.specs.declared.mark.Mark.{Mark}
 use Rattle.tt.specs.BuilderTokens.{index_of}
-use Rattle.token_storage.specs.Marks.{mark_of}
+use Rattle.token_bytes.specs.Marks.{mark_of}
 use Rattle.tt.proofs.HeldMarks.{marks_opened}
 use Rattle.tt.proofs.Held.{IsHeld-opened, reverse-popped}
 use Rattle.tt.proofs.Closings.{IsTreeAt-opened}

@@ -3,7 +3,7 @@ use Rattle.std.proofs.lemmas.List.{length-take, length-drop}
 use Rattle.tt_data.specs.declared.tree.TokenTree.{TokenTree}
 use Rattle.tt.specs.BuilderTokens.{moved_back}
 use Rattle.tt.proofs.HeldMarks.{invisible_head, marks_removed}
-use Rattle.token_storage.proofs.ReadLemmas.{ReadAt, read_at}
+use Rattle.token_bytes.proofs.ReadLemmas.{ReadAt, read_at}
 use Rattle.tt.proofs.Settled.{IsSettled-unwrapped}
 use Rattle.tt.proofs.Unwrapping.{TakenOut, taken_out, left_there, map-reversed}
 use Rattle.tt.proofs.top_subtree.builder.TopSubtreeBuilder.remove_last_subtree_if_invisible.Goals as goal

@@ -1,0 +1,8 @@
+pub mod BoundLemmas
+-- lemmas by subject
+mod AnswerLemmas
+mod AskedLemmas
+mod FloatLemmas
+mod ListLemmas
+mod SpanLemmas
+mod TraceLemmas
