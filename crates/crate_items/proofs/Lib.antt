@@ -2,4 +2,5 @@
 pub mod AttributeLemmas
 pub mod ItemLemmas
 pub mod ImportLemmas
+pub mod OpenedLemmas
 mod Rows

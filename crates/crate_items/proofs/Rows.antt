@@ -14,8 +14,12 @@ use Rattle.cfg_options.specs.Conditions.{Options}
 use Rattle.small_grammar.specs.Text.{same_text}
 use Rattle.tt_data.specs.Forest.{Forest, empty}
 use Rattle.crate_items.specs.Attributes.{found_in}
+use Rattle.crate_items.specs.Extents.{call_extent, found_within, outline_extent}
 use Rattle.crate_items.specs.Imports.{tree_imports}
-use Rattle.crate_items.specs.Items.{Item, definition, import, inline, items_within, macro_use, other, outline}
+use Rattle.crate_items.specs.Items.{Item, definition, import, inline, items_within, macro_use, other, outline, range_at}
+use Rattle.crate_items.specs.Opened.{opened_byte}
+use Rattle.crate_items.specs.declared.extents.Outline.{Outline}
+use Rattle.tt_data.specs.declared.span.TextRange.{TextRange}
 
 -- the trees of a text
 abbrev trees : Result Forest ReadFault → Forest
@@ -108,3 +112,35 @@ many_names :
     ∷ (codes "a" ∷ codes "f" ∷ [], None) ∷ []
 unfolding chars is_utf8 is_xid_start is_xid_continue in_ranges xid_start_ranges xid_continue_ranges encode_utf8 tree_imports
 many_names = refl
+
+-- ---- where calls and modules are
+
+-- where calls are that are items, in modules at most two deep
+abbrev calls : List ℕ → List TextRange
+calls text = found_within unix call_extent 3 (trees (text_reading text))
+
+-- where modules in files of their own are
+abbrev outlines : List ℕ → List Outline
+outlines text = found_within unix outline_extent 3 (trees (text_reading text))
+
+-- a call is from its name to its bracket; what `cfg` leaves out is none
+calls_are_items :
+    calls (codes "m! { mod a; } #[cfg(windows)] n!{} mod i { o!(); } struct S;")
+    ≡ range_at 0 13 ∷ range_at 43 47 ∷ []
+unfolding chars is_utf8 is_xid_start is_xid_continue in_ranges xid_start_ranges xid_continue_ranges encode_utf8
+calls_are_items = refl
+
+-- a module is from its attributes to its `;`; what is in a call is none
+modules_are_items :
+    outlines (codes "#[path = \"x\"] pub mod a; m! { mod c; } mod i { mod b; }")
+    ≡ record { name = 22; range = range_at 0 24 } ∷ record { name = 51; range = range_at 47 53 } ∷ []
+unfolding chars is_utf8 is_xid_start is_xid_continue in_ranges xid_start_ranges xid_continue_ranges encode_utf8
+modules_are_items = refl
+
+-- in `m!{x \n}` a space stands for all but what is kept and the line end
+bytes_of_a_call :
+    map (λ i. opened_byte (range_at 0 7 ∷ []) (range_at 3 4 ∷ []) i 65) (0 ∷ 3 ∷ 6 ∷ 7 ∷ []) ≡ 32 ∷ 65 ∷ 32 ∷ 65 ∷ []
+bytes_of_a_call = refl
+
+line_ends_stay : opened_byte (range_at 0 7 ∷ []) [] 5 10 ≡ 10
+line_ends_stay = refl

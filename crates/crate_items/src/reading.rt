@@ -13,8 +13,8 @@ use rustc_lexer::LexedText;
 use std::alloc::{AllocError, Global};
 use tt_data::TtFault;
 
-// A text as trees, or its reading fault.
-fn read(alloc: Global, text: &str) -> Result<Read, TtFault>
+/// A text as trees, or its reading fault.
+pub(crate) fn read(alloc: Global, text: &str) -> Result<Read, TtFault>
     requires { length text.now < 2 ^ 32 }
     ensures read { IfOk result (IsRead (text_steps text.now)) }
     ensures refused { IfErr result (IsReadRefusal (text_steps text.now)) }

@@ -9,16 +9,19 @@ use crate::warnings::warn;
 use any_grammar::AnyGrammar;
 use cfg_options::CfgOptions;
 use crate_walk::{Content, Event, FileText};
-use expander::{Expansion, Options, Prelude, Reply, Watched};
+use expander::{Expansion, Options, Prelude, Refusal, Reply, Watched};
 use expander_run::lines::{read_fault_words, refusal_words};
 use expander_run::program::put;
 use program_files::{
-    Chosen, Disk, Ended, Whole, chosen_files, code_in, fault_lines, fault_words, file_text, listed,
+    Chosen, Disk, Ended, Expands, Whole, chosen_files, code_in, fault_lines, fault_words, file_text, listed,
     misused, opened, prelude_of_file, push_shown, refusal, refused, tell_lacks, whole_from,
 };
 use std::alloc::{AllocError, Global};
 use std::process::ExitCode;
 use std::{env, io};
+
+// How many levels of calls are expanded where it is asked which modules calls hand on.
+const MOST_LEVELS: u8 = 128;
 
 /// The set of the options that a job's words for `cfg` name: an empty one without a word.
 pub(crate) fn set_of(rt: &HostRuntime, job: &Job<'_>) -> Result<CfgOptions, Ended> {
@@ -33,6 +36,25 @@ pub(crate) fn set_of(rt: &HostRuntime, job: &Job<'_>) -> Result<CfgOptions, Ende
 fn options_of(rt: &HostRuntime, job: &Job<'_>) -> Result<Options<AnyGrammar>, Ended> {
     let set = set_of(rt, job)?;
     Ok(under(&job.options, Some(set)))
+}
+
+// What expands the texts of a crate by a job's options, as many levels deep as they may be.
+#[derive(Drop)]
+struct Texts<'a> {
+    rt: &'a HostRuntime,
+    job: &'a Job<'a>,
+}
+
+impl Expands for Texts<'_> {
+    fn expansion(&self, prelude: Prelude, text: &str) -> Result<Option<Expansion>, Ended> {
+        let mut options = options_of(self.rt, self.job)?;
+        options.depth = MOST_LEVELS;
+        match reply_of(self.rt.alloc(), options, prelude, text) {
+            Ok(Reply::Read(expansion)) => Ok(Some(expansion)),
+            Err(Refusal::Memory) => Err(Ended::from(AllocError)),
+            _ => Ok(None),
+        }
+    }
 }
 
 // The folder in which the program runs, or nothing where that is not told.
@@ -309,7 +331,7 @@ pub(crate) fn walked(
     disk: &Disk<'_>,
     root: &str,
 ) -> Result<Whole, Ended> {
-    let whole = whole_from(rt, job.others(), disk, root)?;
+    let whole = whole_from(rt, job.others(), disk, root, &Texts { rt, job })?;
     let folder = folder_of(rt)?;
     tell_lacks(rt, &whole.walked.modules, folder.as_str())?;
     Ok(whole)

@@ -28,8 +28,11 @@ fn all_files(alloc: Global, modules: &Modules, folder: &str) -> Result<Vec<Chose
     Ok(all)
 }
 
-// The numbers of the files of a crate, by their names.
-fn numbers(alloc: Global, modules: &Modules) -> Result<BTreeMap<String, usize>, AllocError> {
+/// The numbers of the files of a crate, by their names.
+pub(crate) fn numbers(
+    alloc: Global,
+    modules: &Modules,
+) -> Result<BTreeMap<String, usize>, AllocError> {
     let mut numbers = BTreeMap::new(alloc);
     for file in 0..modules.file_count() {
         if let Some(name) = modules.file_name(file) {

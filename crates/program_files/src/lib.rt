@@ -12,6 +12,7 @@ mod library;
 mod listing;
 mod load;
 mod module_ends;
+mod opened;
 mod other;
 mod picks;
 mod renamed;
@@ -31,6 +32,7 @@ pub use load::{
     Ended, OtherWords, Others, Sources, fault_words, others_of, prelude_of, refusal, sources_of,
 };
 pub use module_ends::file_text;
+pub use opened::Expands;
 pub use shown::{one_line, push_shown};
 pub use source::blank_front;
 pub use told::fault_lines;

@@ -61,8 +61,8 @@ fn push_end(
     Ok(())
 }
 
-// Where the printed tokens are, in order.
-fn ranges_in(alloc: Global, expansion: &Expansion) -> Result<Vec<TextRange>, AllocError>
+/// Where the printed tokens are, in order.
+pub(crate) fn ranges_in(alloc: Global, expansion: &Expansion) -> Result<Vec<TextRange>, AllocError>
     requires { length expansion.now.printed < 2 ^ 32 }
     ensures ranges { IfOk result (λ all. all.items ≡ read_ranges expansion.now.printed) }
     ensures count { IfOk result (λ all. length all.items ≡ length expansion.now.origins) }

@@ -4,7 +4,6 @@ ghost use Rattle.crate_walk.specs.Closing.{closes};
 ghost use Rattle.crate_walk.specs.Modules.{steps_of};
 ghost use Rattle.crate_walk.specs.WholeTexts.{IsWhole};
 
-use crate::disk::Disk;
 use crate::files::{misused, opened};
 use crate::imports::{Import, Imports};
 use crate::lacking::text_of;
@@ -12,7 +11,9 @@ use crate::load::{Ended, after, fault_words, refusal};
 use crate::renamed::{home_of, push_renamed};
 use crate_imports::offers_of;
 use crate_picks::{Definitions, FilePicks, push_places};
-use crate_walk::{Content, Event, FileText, MacroItem, Modules, joined, textual_picks, walk_crate};
+use crate_walk::{
+    Content, Event, FileText, Files, MacroItem, Modules, joined, textual_picks, walk_crate,
+};
 use expander::{Home, Prelude, Source, SourceRead};
 use std::alloc::{AllocError, Global};
 use std::process::ExitCode;
@@ -154,15 +155,15 @@ fn no_root<T>(rt: &HostRuntime, root: &str) -> Result<T, Ended> {
     Err(Ended::Status(status))
 }
 
-/// The crate with this root, at home there. Its sources have the numbers behind this one.
+/// The crate with this root among these files, at home there. Its sources have the numbers behind this one.
 pub(crate) fn crate_from(
     rt: &HostRuntime,
-    disk: &Disk<'_>,
+    files: &impl Files,
     root: &str,
     last: u32,
     home: Option<&Home>,
 ) -> Result<Walked, Ended> {
-    let Some(modules) = walk_crate(rt.alloc(), disk, root, MOST_FILES)? else {
+    let Some(modules) = walk_crate(rt.alloc(), files, root, MOST_FILES)? else {
         return no_root(rt, root);
     };
     let picks = textual_picks(rt.alloc(), &modules)?;
