@@ -37,6 +37,20 @@ impl Offers {
     {
         self.known.macros.names_of(number)
     }
+
+    /// What a name of the module of this number stands for as a macro.
+    pub fn macro_named(&self, number: usize, name: &str) -> Option<Target>
+        ensures { result ≡ (names_of self.now.known).macros number name.now }
+    {
+        self.known.macros.get(number, name)
+    }
+
+    /// What a name of the module of this number stands for as a module.
+    pub fn module_named(&self, number: usize, name: &str) -> Option<Target>
+        ensures { result ≡ (names_of self.now.known).modules number name.now }
+    {
+        self.known.modules.get(number, name)
+    }
 }
 
 // What names stand for after all rounds.

@@ -78,18 +78,21 @@ impl Extern {
         Ok(())
     }
 
-    // Adds what an import brings of the crate: a macro that it exports, by a path of the names of
-    // both, or by `*` all that it exports.
+    // Adds what an import brings of the crate: the macro that its path leads to, or by `*` all that
+    // the module offers to which it leads.
     fn push_imported(&self, item: &ImportItem, brought: &mut Brought) -> Result<(), AllocError> {
-        match (item.path.as_slice(), &item.name) {
-            ([root, name], Some(shown)) if root.as_str() == self.home.root() => {
-                let place = self.walked.imports.export(name.as_str());
+        let Some((root, path)) = item.path.as_slice().split_first() else {
+            return Ok(());
+        };
+        if root.as_str() != self.home.root() {
+            return Ok(());
+        }
+        match &item.name {
+            Some(shown) => {
+                let place = self.walked.imports.export(path);
                 brought.push_at(shown.as_str(), place)
             }
-            ([root], None) if root.as_str() == self.home.root() => {
-                self.walked.imports.push_exports(brought)
-            }
-            _ => Ok(()),
+            None => self.walked.imports.push_exports(path, brought),
         }
     }
 
@@ -99,7 +102,7 @@ impl Extern {
         let mut brought = Brought::new(alloc);
         match event {
             Event::Crate(item) if item.keeps_macros && item.name.as_str() == self.home.root() => {
-                self.walked.imports.push_exports(&mut brought)?;
+                self.walked.imports.push_exports(&[], &mut brought)?;
             }
             Event::Import(item) => self.push_imported(item, &mut brought)?,
             _ => {}

@@ -104,17 +104,39 @@ impl Imports {
         Ok(())
     }
 
-    /// Where the definition is that the root offers under this name.
-    pub(crate) fn export(&self, name: &str) -> Option<Place> {
-        match self.offers.macros_of(0)?.get(name) {
-            Some(Target::Macro(place)) => Some(*place),
+    // The number of the module that a path of names leads to from the root.
+    fn module_at(&self, path: &[String]) -> Option<usize> {
+        let mut number = 0;
+        for name in path {
+            let Target::Module(next) = self.offers.module_named(number, name.as_str())? else {
+                return None;
+            };
+            number = next;
+        }
+        Some(number)
+    }
+
+    /// Where the definition is that a path of names leads to from the root.
+    pub(crate) fn export(&self, path: &[String]) -> Option<Place> {
+        let (name, modules) = path.split_last()?;
+        let number = self.module_at(modules)?;
+        match self.offers.macro_named(number, name.as_str())? {
+            Target::Macro(place) => Some(place),
             _ => None,
         }
     }
 
-    /// Adds what the root offers, in the order of the names.
-    pub(crate) fn push_exports(&self, brought: &mut Brought) -> Result<(), AllocError> {
-        let Some(macros) = self.offers.macros_of(0) else {
+    /// Adds what the module offers that a path of names leads to from the root, in the order of the
+    /// names.
+    pub(crate) fn push_exports(
+        &self,
+        path: &[String],
+        brought: &mut Brought,
+    ) -> Result<(), AllocError> {
+        let Some(number) = self.module_at(path) else {
+            return Ok(());
+        };
+        let Some(macros) = self.offers.macros_of(number) else {
             return Ok(());
         };
         for (name, target) in macros {
