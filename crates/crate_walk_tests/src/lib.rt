@@ -11,6 +11,8 @@ mod items;
 #[cfg(test)]
 mod listed;
 #[cfg(test)]
+mod opened;
+#[cfg(test)]
 mod told;
 #[cfg(test)]
 mod walks;
