@@ -84,29 +84,69 @@ impl<'a> Files for Again<'a> {
     }
 }
 
-// Adds where the printed token of this index comes from in the text, if it does: it is one of a
-// module.
-fn push_token(
-    handed: &mut HandedOn,
-    expansion: &Expansion,
-    i: usize,
-    is_name: bool,
-) -> Result<(), AllocError>
+// Where the printed token of this index comes from in the text, if it does.
+fn own_range(expansion: &Expansion, i: usize) -> Option<TextRange>
     requires { i < length expansion.now.origins }
 {
     match expansion.source(i) {
-        Some(origin) if origin.text == 0 => {
-            if is_name {
-                handed.names.push(origin.range.start)?;
-            }
-            Ok(handed.tokens.push(origin.range)?)
-        }
-        _ => Ok(()),
+        Some(origin) if origin.text == 0 => Some(origin.range),
+        _ => None,
     }
 }
 
-// What these modules of an expansion come from. They are at these places of the printed text, and
-// its tokens at these ranges.
+// The byte at an offset of the printed text, or 0 behind it.
+fn byte_at(expansion: &Expansion, at: u32) -> u8 {
+    match expansion.printed().as_bytes().get(at as usize) {
+        Some(byte) => *byte,
+        None => 0,
+    }
+}
+
+// How far the tokens of a module were passed: how deep in brackets the next one is, and whether the
+// last one is kept.
+#[derive(Clone, Copy)]
+struct Passed {
+    depth: usize,
+    keeps: bool,
+}
+
+impl Passed {
+    // Before the first token.
+    fn none() -> Passed {
+        Passed {
+            depth: 0,
+            keeps: true,
+        }
+    }
+
+    // Behind one more token, which begins with this byte. An attribute is kept if its `#` comes from
+    // the text, and all else is.
+    fn behind(self, byte: u8, is_own: bool) -> Passed {
+        let keeps = if self.depth == 0 && byte != b'[' {
+            byte != b'#' || is_own
+        } else {
+            self.keeps
+        };
+        let depth = match byte {
+            b'(' | b'[' | b'{' => self.depth.saturating_add(1),
+            b')' | b']' | b'}' => self.depth.saturating_sub(1),
+            _ => self.depth,
+        };
+        Passed { depth, keeps }
+    }
+}
+
+impl HandedOn {
+    // Adds where a token of a module comes from in the text. `is_name` says whether it is the name.
+    fn push(&mut self, range: TextRange, is_name: bool) -> Result<(), AllocError> {
+        if is_name {
+            self.names.push(range.start)?;
+        }
+        self.tokens.push(range)
+    }
+}
+
+// What these modules of an expansion come from. Its tokens are at these ranges of the printed text.
 fn handed_on(
     alloc: Global,
     expansion: &Expansion,
@@ -119,17 +159,21 @@ fn handed_on(
         names: Vec::new(alloc),
         tokens: Vec::new(alloc),
     };
-    let mut next = 0;
+    let (mut next, mut passed) = (0, Passed::none());
     for i in 0..ranges.len() {
         let start = ranges[i].start;
         while next < outlines.len() && outlines[next].range.end <= start {
-            next += 1;
+            (next, passed) = (next + 1, Passed::none());
         }
         let Some(outline) = outlines.get(next) else {
             break;
         };
         if outline.range.start <= start {
-            push_token(&mut handed, expansion, i, outline.name == start)?;
+            let own = own_range(expansion, i);
+            passed = passed.behind(byte_at(expansion, start), own.is_some());
+            if let (Some(range), true) = (own, passed.keeps) {
+                handed.push(range, outline.name == start)?;
+            }
         }
     }
     Ok(handed)
