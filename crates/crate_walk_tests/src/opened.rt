@@ -11,15 +11,16 @@ fn calls_are_opened(rt: HostRuntime) -> Result<(), Fail> {
     let Some(extents) = extents_of(alloc, &CfgOptions::new(alloc), text)? else {
         return Err(Fail::new("the text can be read"));
     };
-    assert_eq!(rt; extents.calls.as_slice(), &[TextRange { start: 0, end: 14 }]);
+    let call = TextRange { start: 0, end: 14 };
+    assert_eq!(rt; extents.calls.as_slice(), [call].as_slice());
     let outline = Outline {
         name: 24,
         range: TextRange { start: 15, end: 26 },
     };
-    assert_eq!(rt; extents.outlines.as_slice(), &[outline]);
+    assert_eq!(rt; extents.outlines.as_slice(), [outline].as_slice());
     let kept = [TextRange { start: 6, end: 12 }];
     let out = open_calls(alloc, text.as_bytes(), extents.calls.as_slice(), &kept)?;
-    assert_eq!(rt; out.as_slice(), b"    \n mod a;  \n#[x] mod b;");
+    assert_eq!(rt; out.as_slice(), b"    \n mod a;  \n#[x] mod b;".as_slice());
     Ok(())
 }
 

@@ -119,8 +119,8 @@ impl Passed {
         }
     }
 
-    // Behind one more token, which begins with this byte. An attribute is kept if its `#` comes from
-    // the text, and all else is.
+    // Behind one more token, which begins with this byte. An attribute is kept if its `#` comes
+    // from the text, and all else is.
     fn behind(self, byte: u8, is_own: bool) -> Passed {
         let keeps = if self.depth == 0 && byte != b'[' {
             byte != b'#' || is_own
@@ -142,7 +142,7 @@ impl HandedOn {
         if is_name {
             self.names.push(range.start)?;
         }
-        self.tokens.push(range)
+        Ok(self.tokens.push(range)?)
     }
 }
 

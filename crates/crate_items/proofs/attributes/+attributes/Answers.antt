@@ -1,5 +1,5 @@
 -- Each part of a list is one attribute, and each `cfg_attr` one level.
-use Rattle.std.proofs.Common.{◌≡◌, ◌∙◌, ◌<◌, ◌-◌, Bool, true, false, Option, Some, None, List, ℕ, ap, sym, subst, arith}
+use Rattle.std.proofs.Common.{◌≡◌, ◌∙◌, ◌<◌, ◌-◌, Bool, true, false, Option, None, ap, sym, subst, arith}
 use Rattle.std.specs.Prelude.{if◌then◌else◌, unwrap_or}
 use Rattle.std.proofs.lemmas.Result.{IfOk-weaker}
 use Rattle.cfg_options.proofs.PartLemmas.{less_after}
@@ -9,7 +9,7 @@ use Rattle.cfg_options.specs.Strings.{string_text}
 use Rattle.tt_data.specs.Forest.{Forest, empty, size}
 use Rattle.crate_items.proofs.AttributeLemmas.{behind_first, next_level, no_level, part_found, part_passed}
 use Rattle.crate_items.proofs.ImportLemmas.{some_tree}
-use Rattle.crate_items.specs.Attributes.{conditional, first_found, found_behind, found_by, found_in}
+use Rattle.crate_items.specs.Attributes.{first_found, found_by, found_in}
 use Rattle.crate_items.proofs.attributes.+attributes.Goals as goal
 
 pub found_among-returns-in-Some : goal.found_among-returns-in-Some
