@@ -12,8 +12,10 @@ same_end : (s e n i j : ℕ) → j < n → min e n ≤ i → (i ≤ s) ⊎ (i �
 same_end s e n i j within reaches at = go (nat_le s j) refl where
   to : nat_le s j ≡ true → nat_lt j i ≡ true → j < e
   to low high = omega (arith, leb-true s j low, ltb-true j i high, at)
+
   from : j < e → nat_lt j i ≡ true
   from h = lt-ltb j i (omega (arith, h, within, reaches))
+
   go : (b : Bool) → nat_le s j ≡ b → (b && nat_lt j i) ≡ (b && nat_lt j e)
   go false low = refl
   go true low = ltb_from_iff (to low, from)

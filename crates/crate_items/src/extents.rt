@@ -167,6 +167,11 @@ pub fn extents_of(
         calls: Vec::new(alloc),
         outlines: Vec::new(alloc),
     };
-    push_within(options, MOST_LISTS, &tree.token_trees().iter(), &mut extents)?;
+    push_within(
+        options,
+        MOST_LISTS,
+        &tree.token_trees().iter(),
+        &mut extents,
+    )?;
     Ok(Some(extents))
 }

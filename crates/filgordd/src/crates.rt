@@ -13,8 +13,9 @@ use expander::{Expansion, Options, Prelude, Refusal, Reply, Watched};
 use expander_run::lines::{read_fault_words, refusal_words};
 use expander_run::program::put;
 use program_files::{
-    Chosen, Disk, Ended, Expands, Whole, chosen_files, code_in, fault_lines, fault_words, file_text, listed,
-    misused, opened, prelude_of_file, push_shown, refusal, refused, tell_lacks, whole_from,
+    Chosen, Disk, Ended, Expands, Whole, chosen_files, code_in, fault_lines, fault_words,
+    file_text, listed, misused, opened, prelude_of_file, push_shown, refusal, refused, tell_lacks,
+    whole_from,
 };
 use std::alloc::{AllocError, Global};
 use std::process::ExitCode;

@@ -45,12 +45,7 @@ struct HandedOn {
 
 impl Again<'_> {
     // What a file has that has this text, by what is in opened calls of it.
-    fn read_again(
-        &self,
-        alloc: Global,
-        name: &str,
-        text: &str,
-    ) -> Result<Content, AllocError> {
+    fn read_again(&self, alloc: Global, name: &str, text: &str) -> Result<Content, AllocError> {
         let text = String::from_str(alloc, text)?;
         let Some(bytes) = self.opened.get(name) else {
             return content_of(alloc, self.disk.options, text);

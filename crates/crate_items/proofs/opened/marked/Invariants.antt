@@ -8,4 +8,4 @@ abbrev pub invariant-loop-range : goal.invariant-loop-range
 invariant-loop-range l =
     (length l.marks.items ≡ l.count)
     × ((i : ℕ) → i < l.count →
-        slice_get l.marks.items i ≡ Some (is_in_any (take l.range-index l.ranges) i))
+    slice_get l.marks.items i ≡ Some (is_in_any (take l.range-index l.ranges) i))

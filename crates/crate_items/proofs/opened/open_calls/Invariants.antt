@@ -8,4 +8,4 @@ abbrev pub invariant-loop-i : goal.invariant-loop-i
 invariant-loop-i l =
     (length l.out.items ≡ l.i)
     × ((j : ℕ) → j < l.i → slice_get l.out.items j
-        ≡ option_map (opened_byte l.calls l.kept j) (slice_get l.text j))
+    ≡ option_map (opened_byte l.calls l.kept j) (slice_get l.text j))
