@@ -2,6 +2,7 @@
 //! a crate.
 #![tactic(auto)]
 
+mod calls;
 mod chosen;
 mod disk;
 mod externs;
@@ -12,7 +13,6 @@ mod library;
 mod listing;
 mod load;
 mod module_ends;
-mod opened;
 mod other;
 mod picks;
 mod renamed;
@@ -23,6 +23,7 @@ mod told;
 mod walked;
 mod whole;
 
+pub use calls::Expands;
 pub use chosen::{Chosen, chosen_files};
 pub use disk::{Disk, code_in};
 pub use files::{misused, opened, read_whole, refused, stopped};
@@ -32,7 +33,6 @@ pub use load::{
     Ended, OtherWords, Others, Sources, fault_words, others_of, prelude_of, refusal, sources_of,
 };
 pub use module_ends::file_text;
-pub use opened::Expands;
 pub use shown::{one_line, push_shown};
 pub use source::blank_front;
 pub use told::fault_lines;

@@ -1,11 +1,11 @@
 //! All that files of a crate are expanded after.
 
+use crate::calls::{Again, Expands, Opened, opened_files};
 use crate::chosen::{file_at, numbers};
 use crate::disk::Disk;
 use crate::externs::{Extern, externs_of, push_event};
 use crate::imports::Import;
 use crate::load::{Ended, OtherWords, Sources, prelude_of, sources_of};
-use crate::opened::{Again, Expands, Opened, opened_files};
 use crate::walked::{Walked, crate_from};
 use crate_picks::push_places;
 use crate_walk::{Event, Place};
