@@ -64,6 +64,14 @@ def place_asked(method, params):
     return place_at(params, "position")
 
 
+# How many steps parameters ask for at most: a number, or none. None for another form.
+def limit_of(params):
+    if "limit" not in params:
+        return ()
+    limit = number_at(params, "limit", 0, 2**64 - 1)
+    return None if limit is None else (limit,)
+
+
 def uri_of(params):
     return text_at(member(params, "textDocument"), "uri")
 
@@ -117,6 +125,14 @@ class Program:
         told = ran.stderr.decode().splitlines()
         return ran.stdout.decode(), [it.split(": ", 1)[1] for it in told if it.startswith("line ")]
 
+    # The lines that `trace --json` writes of the call at a place, in the program's own places.
+    def steps_at(self, text, at, limit):
+        line, column = text[:at].count("\n") + 2, at - text[:at].rfind("\n")
+        most = ["--to", str(*limit)] if limit else []
+        words = [self.path, "trace", "--json", *self.options, *most, "--", f"-:{line}:{column}"]
+        ran = subprocess.run(words, input=f"\n{text}".encode(), capture_output=True)
+        return [line_up(json.loads(it)) for it in ran.stdout.splitlines()]
+
     def can_read(self, text):
         return self.reply(text)["answer"] == "expansion"
 
@@ -131,6 +147,29 @@ class Program:
         return [
             diagnostic(fault_range(text, it["at"]), 2, it["kind"], it["message"]) for it in shown
         ]
+
+
+# A value that tells of a text behind a line feed, as one that tells of the text: its places, and
+# origins in it, are a byte and a line up.
+def line_up(value):
+    if isinstance(value, list):
+        return [line_up(it) for it in value]
+    if not isinstance(value, dict):
+        return value
+    if set(value) == {"bytes", "start", "end"}:
+        places = {it: [value[it][0] - 1, value[it][1]] for it in ("start", "end")}
+        return {"bytes": [it - 1 for it in value["bytes"]], **places}
+    found = {name: line_up(it) for name, it in value.items()}
+    if "origins" in value:
+        found["origins"] = origins_up(value["origins"])
+    return found
+
+
+def origins_up(numbers):
+    up = []
+    for text, start, end in zip(*[iter(numbers)] * 3):
+        up += [text, start - 1, end - 1] if text == 0 else [text, start, end]
+    return up
 
 
 # Where a fault is in a text that was expanded behind a line feed: its bytes and its lines agree.
@@ -260,8 +299,14 @@ def actions(program, uri, text, place):
     return [{"title": title, "kind": "refactor.inline", "edit": edit}]
 
 
+# The lines that tell of the steps of the call at a place, if one is there.
+def steps(program, uri, text, place, limit=()):
+    lines = program.steps_at(text, texts.index_of(text, *place), limit)
+    return lines if len(lines) > 1 else None
+
+
 SYMBOLS, DEFINITION = "textDocument/documentSymbol", "textDocument/definition"
-ACTIONS = "textDocument/codeAction"
+ACTIONS, STEPS = "textDocument/codeAction", "filgordd/trace"
 # Which answer each question gets: a new one has its function here.
 ANSWERS = {
     SYMBOLS: symbols,
@@ -269,6 +314,7 @@ ANSWERS = {
     "textDocument/hover": hover,
     "rust-analyzer/expandMacro": expansion,
     ACTIONS: actions,
+    STEPS: steps,
 }
 
 
@@ -331,8 +377,12 @@ class Server:
         uri, place = uri_of(params), place_asked(method, params)
         if uri not in self.documents or (place is None and method != SYMBOLS):
             return failure(id, INVALID_PARAMS)
+        limit = limit_of(params) if method == STEPS else ()
+        if limit is None:
+            return failure(id, INVALID_PARAMS)
         text, _version = self.documents[uri]
-        return response(id, ANSWERS[method](self.program, uri, text, place))
+        more = [limit] if method == STEPS else []
+        return response(id, ANSWERS[method](self.program, uri, text, place, *more))
 
     def take_note(self, method, params):
         if method == "exit":

@@ -7,6 +7,7 @@ pub mod Symbols
 pub mod Serving
 pub mod Layouts
 pub mod Actions
+pub mod Steps
 pub mod Questions
 -- what the functions inside the crate promise each other
 pub mod Losses

@@ -1,6 +1,6 @@
 -- What a question about an open text is answered. (LSP 3.17, "Hover Request" and "Document Symbols
 -- Request"; "Expand Macro" of rust-analyzer.)
-use Rattle.std.specs.Prelude.{◌≡◌, ◌⊎◌, ◌<◌, ◌++◌, ◌^◌, ℕ, List, [], ◌∷◌, codes, Contains, length, min, string_bytes, true, Option, Some, None, option_map, ⊤}
+use Rattle.std.specs.Prelude.{◌≡◌, ◌⊎◌, ◌<◌, ◌++◌, ◌^◌, ℕ, List, [], ◌∷◌, codes, Contains, length, string_bytes, true, Option, Some, None, option_map, ⊤}
 use Rattle.serde_json.specs.Data.{Data, null, object, string, member, no_members}
 use Rattle.any_grammar.specs.Answer.{answer}
 use Rattle.any_grammar.specs.declared.chosen.AnyGrammar.{AnyGrammar}
@@ -10,22 +10,18 @@ use Rattle.call_expansion.specs.declared.answer.Called.{Called}
 use Rattle.expander_model.specs.declared.fault.FaultKind.{FaultKind}
 use Rattle.expander_run.specs.Lines.{fault_words}
 use Rattle.expander_session.specs.State.{State, definitions_of}
-use Rattle.line_index.specs.Lines.{offset_of}
 use Rattle.line_index.specs.declared.positions.Position.{Position}
 use Rattle.lsp_server.specs.declared.workspace.Question.{Question}
-use Rattle.lsp_server.specs.declared.workspace.Question.TheVariants.{Hover, Definition, Symbols, Expansion, Actions}
+use Rattle.lsp_server.specs.declared.workspace.Question.TheVariants.{Hover, Definition, Symbols, Expansion, Actions, Steps}
 use Rattle.session_workspace.specs.Actions.{OffersActions}
 use Rattle.session_workspace.specs.Layouts.{IsLaidOut}
 use Rattle.session_workspace.specs.OpenTexts.{HaveNone, is_named}
-use Rattle.session_workspace.specs.Ranges.{range_data}
+use Rattle.session_workspace.specs.Ranges.{byte_at, range_data}
+use Rattle.session_workspace.specs.Steps.{TellsSteps}
 use Rattle.session_workspace.specs.Symbols.{ListsSymbols}
 use Rattle.session_workspace.specs.declared.open_text.OpenText.{OpenText}
 
 -- ---- calls
-
--- the byte at a position
-abbrev pub byte_at : List ℕ → Position → ℕ
-byte_at text p = min (length text) (offset_of text p.line p.column)
 
 -- the text's meaning says this of the call at a position of a session's text, by its options and
 -- after its prelude: in the last piece that begins at or before the byte
@@ -91,18 +87,22 @@ abbrev pub ShowsCall : (Option Called → Data → Type 0) → State AnyGrammar 
 ShowsCall Shows s place told =
     (called : Option Called) × IsSaidAt s place called × Shows called told
 
--- an answer to a question about a text of this name; that a call's definition is found is not said
-abbrev pub Answers : Question → (uri : List ℕ) → State AnyGrammar → Data → Type 0
-Answers (Hover place) uri s told = ShowsCall (ShowsHover s.text) s place told
-Answers (Expansion place) uri s told = ShowsCall ShowsExpansion s place told
-Answers (Actions place) uri s told = ShowsCall (OffersActions uri s.text) s place told
-Answers Symbols uri s told = ListsSymbols s.text told
-Answers (Definition place) uri s told = ⊤
+-- an answer to a question about a text of this name, where texts that definitions come from have
+-- these names; that a call's definition is found is not said
+abbrev pub Answers : Question → (uri : List ℕ) → (others : List (List ℕ)) → State AnyGrammar → Data
+    → Type 0
+Answers (Hover place) uri others s told = ShowsCall (ShowsHover s.text) s place told
+Answers (Expansion place) uri others s told = ShowsCall ShowsExpansion s place told
+Answers (Actions place) uri others s told = ShowsCall (OffersActions uri s.text) s place told
+Answers (Steps place most) uri others s told = TellsSteps uri others s place most told
+Answers Symbols uri others s told = ListsSymbols s.text told
+Answers (Definition place) uri others s told = ⊤
 
 -- an answer about the open text of this name, or none where none has it. A session's text has less
 -- than 2^32 bytes
-abbrev pub IsAnswered : Question → List ℕ → List OpenText → Option Data → Type 0
-IsAnswered question uri texts None = HaveNone uri texts
-IsAnswered question uri texts (Some told) = (t : OpenText) × Contains texts t
+abbrev pub IsAnswered : Question → (uri : List ℕ) → (others : List (List ℕ)) → List OpenText
+    → Option Data → Type 0
+IsAnswered question uri others texts None = HaveNone uri texts
+IsAnswered question uri others texts (Some told) = (t : OpenText) × Contains texts t
     × (is_named uri t ≡ true)
-    × (length t.session.text < 2 ^ 32 → Answers question uri t.session told)
+    × (length t.session.text < 2 ^ 32 → Answers question uri others t.session told)

@@ -3,6 +3,7 @@ ghost use Rattle.std.specs.Prelude.{◌≡◌, ◌<◌, ◌^◌, Err, IfOk, List
 ghost use Rattle.serde_json.specs.View.{view};
 ghost use Rattle.tt_data.specs.fault.TtFault.TheVariants as fault;
 ghost use Rattle.session_workspace.specs.Layouts.{IsLaidOut};
+ghost use Rattle.session_workspace.specs.Ranges.{byte_at};
 ghost use Rattle.session_workspace.specs.Questions.{IsHoverText, IsSaidAt, NeedsTooManyIn, Says};
 ghost use Rattle.session_workspace.specs.Questions.{ShowsCall, ShowsExpansion, ShowsHover};
 ghost use Rattle.session_workspace.specs.Questions.{ShowsTokens, code_block, expansion_data};
@@ -25,6 +26,29 @@ use std::alloc::{AllocError, Global};
 use tt_data::{TextRange, TtFault};
 
 const UNKNOWN: &str = "no definition of this macro is known here, or no rule of it fits";
+
+/// The byte at a position of a text.
+pub(crate) fn byte_at(text: &str, place: Position) -> u32
+    requires { length text.now < 2 ^ 32 }
+    ensures { result ≡ byte_at text.now place }
+{
+    text.len().min(offset_of(text, place)) as u32
+}
+
+/// By what the calls of a session's text are expanded.
+pub(crate) fn options_of(session: &Session<AnyGrammar>) -> CallOptions<'_, AnyGrammar>
+    ensures grammar { result.grammar.now ≡ session.now.grammar }
+    ensures edition { result.edition ≡ session.now.edition }
+    ensures dialect { result.dialect.now ≡ session.now.dialect }
+    ensures depth { result.depth ≡ session.now.depth }
+{
+    CallOptions {
+        grammar: session.grammar(),
+        edition: session.edition(),
+        dialect: session.dialect(),
+        depth: session.depth(),
+    }
+}
 
 // The text that was asked about last becomes this one, or there is a new one.
 fn followed(alloc: Global, asked: Option<PiecedText>, text: &str) -> Result<PiecedText, AllocError>
@@ -53,14 +77,9 @@ fn said_at(
     ensures tokens { result ≡ Err fault.Tokens → NeedsTooManyIn session.now }
 {
     let text = session.text();
-    let at = text.len().min(offset_of(text, place)) as u32;
-    let by = CallOptions {
-        grammar: session.grammar(),
-        edition: session.edition(),
-        dialect: session.dialect(),
-        depth: session.depth(),
-    };
+    let at = byte_at(text, place);
     let mut pieced = followed(alloc, asked.take(), text)?;
+    let by = options_of(session);
     let said = call_in_followed(alloc, &by, session.prelude(), &mut pieced, at);
     *asked = Some(pieced);
     said

@@ -13,6 +13,7 @@ mod outline;
 mod ranges;
 mod serving;
 mod setup;
+mod steps;
 mod workspace;
 
 pub use serving::{end_words, serve_texts};

@@ -1,6 +1,6 @@
 //! The workspace of sessions.
 ghost use Rattle.std.specs.Prelude.{◌≡◌, ◌<◌, ◌^◌, ◌++◌, ◌∷◌, [], IfErr, IfOk, OnErr, OnOk, length};
-ghost use Rattle.std.specs.Prelude.{map, option_map};
+ghost use Rattle.std.specs.Prelude.{map, option_map, string_bytes};
 ghost use Rattle.serde_json.specs.View.{view};
 ghost use Rattle.client_texts.specs.Texts.{with_edit, without};
 ghost use Rattle.client_texts.specs.Views.{change_view, note_view};
@@ -17,6 +17,7 @@ use crate::lost::{Lost, loss_message};
 use crate::open_text::OpenText;
 use crate::outline::symbols_of;
 use crate::setup::{Setup, session_over};
+use crate::steps::steps_at;
 use any_grammar::AnyGrammar;
 use client_texts::{Change, Note};
 use expander_session::session::Session;
@@ -40,22 +41,26 @@ pub struct SessionWorkspace<S> {
     pub(crate) alloc: Global,
     pub(crate) setup: S,
     pub(crate) shown: Shown,
+    /// The names of the texts that definitions come from, in order of their numbers, from 1.
+    pub(crate) others: Vec<String>,
     pub(crate) texts: Vec<OpenText>,
     /// The text that was asked about last, if there is one. It may be one that is closed.
     pub(crate) asked: Option<PiecedText>,
 }
 
-// The answer to a question about a session's text, which has this name. `asked` is the text that
-// was asked about last.
+// The answer to a question about a session's text, which has this name. `others` are the names of
+// the texts that definitions come from, and `asked` is the text that was asked about last.
 fn answer_of(
     alloc: Global,
     question: Question,
     uri: &str,
+    others: &[String],
     session: &Session<AnyGrammar>,
     asked: &mut Option<PiecedText>,
 ) -> Result<Value, AllocError>
     ensures { IfOk result (λ v.
-        length session.now.text < 2 ^ 32 → Answers question uri.now session.now (view v)) }
+        length session.now.text < 2 ^ 32 → Answers question uri.now
+        (map string_bytes others.now) session.now (view v)) }
 {
     let text = session.text();
     if text.len() > u32::MAX as usize {
@@ -65,6 +70,7 @@ fn answer_of(
         Question::Hover(place) => hover_at(alloc, session, place, asked),
         Question::Expansion(place) => expansion_at(alloc, session, place, asked),
         Question::Actions(place) => actions_at(alloc, uri, session, place, asked),
+        Question::Steps(place, most) => steps_at(alloc, uri, others, session, place, most),
         Question::Symbols => symbols_of(alloc, text),
         Question::Definition(place) => definition_at(alloc, uri, text, place),
     }
@@ -84,14 +90,21 @@ fn find(texts: &[OpenText], uri: &str) -> Option<usize>
 }
 
 impl<S: Setup> SessionWorkspace<S> {
-    /// A workspace in which no text is open.
-    pub fn new(alloc: Global, setup: S, shown: Shown) -> SessionWorkspace<S>
+    /// A workspace in which no text is open. `others` are the names of the texts that definitions
+    /// come from, in order of their numbers, from 1.
+    pub fn new(
+        alloc: Global,
+        setup: S,
+        shown: Shown,
+        others: Vec<String>,
+    ) -> SessionWorkspace<S>
         ensures { documents_of result.texts.items ≡ [] }
     {
         SessionWorkspace {
             alloc,
             setup,
             shown,
+            others,
             texts: Vec::new(alloc),
             asked: None,
         }
@@ -225,7 +238,8 @@ impl<S: Setup> Workspace for SessionWorkspace<S> {
     fn ask(&mut self, question: Question, uri: &str) -> Result<Option<Value>, AllocError>
         ensures same { documents_of self.new.texts.items ≡ documents_of self.old.texts.items }
         ensures answered { IfOk result (λ answer. IsAnswered question uri.now
-            self.old.texts.items (option_map view answer)) }
+            (map string_bytes self.old.others.items) self.old.texts.items
+            (option_map view answer)) }
     {
         let Some(i) = find(self.texts.as_slice(), uri) else {
             return Ok(None);
@@ -234,6 +248,7 @@ impl<S: Setup> Workspace for SessionWorkspace<S> {
             self.alloc,
             question,
             uri,
+            self.others.as_slice(),
             &self.texts[i].session,
             &mut self.asked,
         )?;
