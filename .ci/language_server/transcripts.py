@@ -228,7 +228,8 @@ class Client:
         if method == model.ACTIONS:
             about = {"range": {"start": place, "end": self.pick([place, FAR[0]])}, "context": {}}
         if method == model.STEPS and self.is_likely(40):
-            about["limit"] = self.pick([0, 1, 2, 3, 10, 2**64 - 1, -1, 1.5, None, "2"])
+            odd = [-1, 1.5, None, "2"]
+            about["limit"] = self.pick(odd if self.is_likely(15) else [0, 1, 2, 3, 2**64 - 1])
         params = {"textDocument": {"uri": uri}, **about}
         if self.is_likely(10):
             params = self.pick([None, [], {}, {"textDocument": {"uri": uri}}, about])

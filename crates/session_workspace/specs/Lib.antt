@@ -6,6 +6,7 @@ pub mod OpenTexts
 pub mod Symbols
 pub mod Serving
 pub mod Layouts
+pub mod Earlier
 pub mod Actions
 pub mod Steps
 pub mod Questions

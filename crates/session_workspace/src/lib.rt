@@ -6,6 +6,8 @@ mod actions;
 mod calls;
 mod definitions;
 mod diagnostics;
+mod earlier;
+mod expansions;
 mod lost;
 mod names;
 mod open_text;
