@@ -223,6 +223,9 @@ class Client:
 
     def question(self):
         uri, method = self.uri(), self.pick([model.DEFINITION, *model.ANSWERS])
+        unread = list(self.server.earlier)
+        if unread and self.is_likely(60):
+            uri, method = self.pick(unread), self.pick([model.HOVER, model.EXPANSION])
         place = self.called_place(uri)
         about = {"position": place}
         if method == model.ACTIONS:

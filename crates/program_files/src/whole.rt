@@ -132,11 +132,7 @@ pub fn prelude_of_path(
 }
 
 // Adds the names of a crate's files.
-fn push_names(
-    alloc: Global,
-    modules: &Modules,
-    names: &mut Vec<String>,
-) -> Result<(), AllocError> {
+fn push_names(alloc: Global, modules: &Modules, names: &mut Vec<String>) -> Result<(), AllocError> {
     for file in 0..modules.file_count() {
         let name = modules.file_name(file).unwrap_or("");
         names.push(String::from_str(alloc, name)?)?;

@@ -1,9 +1,10 @@
 -- The texts of a workspace, as a list. (For `find`, `forget`, `edit` and `tell`.)
-use Rattle.std.proofs.Common.{◌≡◌, ◌∙◌, ℕ, suc, ◌+◌, ◌<◌, ◌≤◌, List, [], ◌∷◌, ◌++◌, length, take, drop, get_or, map, refl, sym, ap, inl, inr, subst, Bool, true, false, Option, Some, None, arith, length-append}
+use Rattle.std.proofs.Common.{◌≡◌, ◌∙◌, ℕ, suc, ◌+◌, ◌<◌, ◌≤◌, List, [], ◌∷◌, ◌++◌, length, take, drop, get_or, map, refl, sym, ap, inl, inr, subst, Bool, true, false, Option, Some, None, arith, if◌then◌else◌, length-append, string_bytes}
 use Rattle.std.specs.Prelude.{◌⊎◌, Contains, IfErr, IfOk, OnErr, Result, Ok, Err, ℤ, option_map}
 use Rattle.std.specs.List.{insert, remove}
 use Rattle.std.proofs.Math.Seq.{get_or-append_seam}
 use Rattle.std.proofs.lemmas.Grind.{common_steps}
+use Rattle.std.proofs.lemmas.Slice.Eq.{bytes_eq-Decides}
 use Rattle.std.proofs.lemmas.List.{take-append-drop, take-append-le, take_all, drop-append-le, drop_all, drop_more, take_more}
 use Rattle.client_texts.specs.Params.{Change, Note}
 use Rattle.client_texts.specs.Texts.{Document, after, after_edit, with_edit, without}
@@ -205,4 +206,4 @@ kept_none false kept none = none
 -- a text that is named so has the name
 pub is_own_name : (uri : List ℕ) (t : OpenText) → string_bytes t.uri ≡ uri
     → is_named uri t ≡ true
-is_own_name uri t same = rw same (bytes_eq-refl uri)
+is_own_name uri t same = rw same ((bytes_eq-Decides uri uri).1 refl)

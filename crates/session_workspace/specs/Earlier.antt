@@ -3,8 +3,8 @@
 use Rattle.std.specs.Prelude.{ℕ, ◌-◌, List, drop, if◌then◌else◌, length, nat_eq, take, Option, Some, None}
 use Rattle.std.specs.List.{ends_with, starts_with}
 
--- the byte of an earlier text that one of a newer text comes from: the same one, where all before it
--- is the same in both; else the one as far from the end, where all from it on is the same; else
+-- the byte of an earlier text that one of a newer text comes from: the same one, where all before
+-- it is the same in both; else the one as far from the end, where all from it on is the same; else
 -- none, in what was replaced
 abbrev pub byte_before : (old new : List ℕ) → (at : ℕ) → Option ℕ
 byte_before old new at =

@@ -29,7 +29,8 @@ documents_of texts = map document_of texts
 abbrev pub earlier_of : OpenText → Option (List ℕ)
 earlier_of t = option_map string_bytes t.earlier
 
--- what is kept of an open text that is edited: its bytes if it could be read, and else what was kept
+-- what is kept of an open text that is edited: its bytes if it could be read, and else what was
+-- kept
 abbrev pub kept_of : OpenText → Option (List ℕ)
 kept_of t = if t.is_read then Some t.session.text else earlier_of t
 

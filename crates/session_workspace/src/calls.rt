@@ -51,8 +51,8 @@ fn followed(alloc: Global, asked: Option<PiecedText>, text: &str) -> Result<Piec
     }
 }
 
-// What is said of the call at a byte of a text, by a session's options. `asked` is the text that was
-// asked about last: it becomes this text. If there is no memory for that, it is none.
+// What is said of the call at a byte of a text, by a session's options. `asked` is the text that
+// was asked about last: it becomes this text. If there is no memory for that, it is none.
 fn said_in(
     alloc: Global,
     session: &Session<AnyGrammar>,
@@ -71,8 +71,9 @@ fn said_in(
     said
 }
 
-/// What is said of the call at a byte of a text, by a session's options. `None` if there is none, or
-/// that takes too many tokens. `asked` is the text that was asked about last: it becomes this text.
+/// What is said of the call at a byte of a text, by a session's options. `None` if there is none,
+/// or that takes too many tokens. `asked` is the text that was asked about last: it becomes this
+/// text.
 pub(crate) fn call_in(
     alloc: Global,
     session: &Session<AnyGrammar>,

@@ -113,7 +113,13 @@ pub(crate) fn steps_at(
     let text = session.text();
     let texts = Texts::of(alloc, uri, text, others)?;
     let question = question_at(byte_at(text, place), most);
-    match answer_to(alloc, &texts, &options_of(session), session.prelude(), question) {
+    match answer_to(
+        alloc,
+        &texts,
+        &options_of(session),
+        session.prelude(),
+        question,
+    ) {
         Ok(answer) => answer_value(alloc, &answer),
         Err(TtFault::Tokens) => Ok(Value::Null),
         Err(_) => Err(AllocError),

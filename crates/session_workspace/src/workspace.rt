@@ -102,12 +102,7 @@ fn find(texts: &[OpenText], uri: &str) -> Option<usize>
 impl<S: Setup> SessionWorkspace<S> {
     /// A workspace in which no text is open. `others` are the names of the texts that definitions
     /// come from, in order of their numbers, from 1.
-    pub fn new(
-        alloc: Global,
-        setup: S,
-        shown: Shown,
-        others: Vec<String>,
-    ) -> SessionWorkspace<S>
+    pub fn new(alloc: Global, setup: S, shown: Shown, others: Vec<String>) -> SessionWorkspace<S>
         ensures { documents_of result.texts.items ≡ [] }
     {
         SessionWorkspace {
