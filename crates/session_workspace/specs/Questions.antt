@@ -18,7 +18,7 @@ use Rattle.session_workspace.specs.Layouts.{IsLaidOut}
 use Rattle.session_workspace.specs.Earlier.{byte_before}
 use Rattle.session_workspace.specs.OpenTexts.{HaveNone, earlier_of, is_named}
 use Rattle.session_workspace.specs.Ranges.{byte_at, range_data}
-use Rattle.session_workspace.specs.Steps.{TellsSteps}
+use Rattle.session_workspace.specs.Steps.{ShowsSteps}
 use Rattle.session_workspace.specs.Symbols.{ListsSymbols}
 use Rattle.session_workspace.specs.declared.open_text.OpenText.{OpenText}
 
@@ -113,9 +113,9 @@ earlier_hover shown =
     (member (codes "value") (string (earlier_words shown)) no_members))) no_members)
 
 abbrev pub ShowsEarlierHover : Option Called → Data → Type 0
-ShowsEarlierHover (Some c) told =
-    (shown : List ℕ) × IsHoverText c.gives c.faults.items shown × (told ≡ earlier_hover shown)
-ShowsEarlierHover None told = told ≡ null
+ShowsEarlierHover (Some c) value =
+    (shown : List ℕ) × IsHoverText c.gives c.faults.items shown × (value ≡ earlier_hover shown)
+ShowsEarlierHover None value = value ≡ null
 
 -- ---- all questions
 
@@ -128,9 +128,9 @@ ShowsCall Shows s place told =
 -- else in another
 abbrev pub ShowsAsOf : (earlier : Option (List ℕ)) → (Now Then : Option Called → Data → Type 0)
     → State AnyGrammar → Position → Data → Type 0
-ShowsAsOf None Now Then s place told = ShowsCall Now s place told
-ShowsAsOf (Some earlier) Now Then s place told =
-    (called : Option Called) × IsSaidBefore s earlier place called × Then called told
+ShowsAsOf None Now Then s place value = ShowsCall Now s place value
+ShowsAsOf (Some earlier) Now Then s place value =
+    (called : Option Called) × IsSaidBefore s earlier place called × Then called value
 
 -- an answer to a question about a text of this name, where texts that definitions come from have
 -- these names; that a call's definition is found is not said. What a call expands to is shown as of
@@ -142,7 +142,7 @@ Answers (Expansion place) uri others t told =
     ShowsAsOf (earlier_of t) (ShowsExpansion []) (ShowsExpansion earlier_front) t.session place told
 Answers (Actions place) uri others t told =
     ShowsCall (OffersActions uri t.session.text) t.session place told
-Answers (Steps place most) uri others t told = TellsSteps uri others t.session place most told
+Answers (Steps place most) uri others t told = ShowsSteps uri others t.session place most told
 Answers Symbols uri others t told = ListsSymbols t.session.text told
 Answers (Definition place) uri others t told = ⊤
 

@@ -39,11 +39,11 @@ question_at at most = record {
 abbrev pub named_by : (uri text : List ℕ) → (others : List (List ℕ)) → Named
 named_by uri text others = record { file = uri; text = text; others = others }
 
--- this is told of a question about a session's text, which has this name: what is told of the
--- traces of its trees, by its options and after its prelude
-abbrev pub IsToldOfSteps : (uri : List ℕ) → (others : List (List ℕ)) → State AnyGrammar → Question
+-- an answer to a question about a session's text, which has this name: the lines for the traces of
+-- its trees, by its options and after its prelude
+abbrev pub IsStepsAnswer : (uri : List ℕ) → (others : List (List ℕ)) → State AnyGrammar → Question
     → Answer → Type 0
-IsToldOfSteps uri others s q a =
+IsStepsAnswer uri others s q a =
     IsAnswerTo (context_by (named_by uri s.text others) (answer s.grammar) s.edition) q
     (traces_in (rewrites (answer s.grammar) s.edition) s.dialect s.depth q
     (definitions_of s.prelude)) (text_reading s.text) a
@@ -71,17 +71,16 @@ values_data ds = if ltb 1 (length ds) then array (items_of ds) else null
 
 -- an answer shows the lines for steps, and nothing of a text that cannot be read
 abbrev pub ShowsAnswer : Answer → Data → Type 0
-ShowsAnswer (Unread fault) told = told ≡ null
-ShowsAnswer (Told l) told =
-    (ds : List Data) × AreValuesOf (string_bytes l.text) ds × (told ≡ values_data ds)
+ShowsAnswer (Unread fault) value = value ≡ null
+ShowsAnswer (Told l) value =
+    (ds : List Data) × AreValuesOf (string_bytes l.text) ds × (value ≡ values_data ds)
 
 -- ---- the answer
 
--- an answer tells the steps of the call at a position of a session's text; nothing for too many
--- tokens
-abbrev pub TellsSteps : (uri : List ℕ) → (others : List (List ℕ)) → State AnyGrammar → Position
+-- the steps of the call at a position of a session's text are shown; nothing for too many tokens
+abbrev pub ShowsSteps : (uri : List ℕ) → (others : List (List ℕ)) → State AnyGrammar → Position
     → (most : Option ℕ) → Data → Type 0
-TellsSteps uri others s place most told =
-    ((a : Answer) × IsToldOfSteps uri others s (question_at (byte_at s.text place) most) a
-    × ShowsAnswer a told)
-    ⊎ (HasTooMany (text_steps s.text) × (told ≡ null))
+ShowsSteps uri others s place most value =
+    ((a : Answer) × IsStepsAnswer uri others s (question_at (byte_at s.text place) most) a
+    × ShowsAnswer a value)
+    ⊎ (HasTooMany (text_steps s.text) × (value ≡ null))

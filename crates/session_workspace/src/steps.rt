@@ -2,7 +2,7 @@
 ghost use Rattle.std.specs.Prelude.{◌≡◌, ◌<◌, ◌++◌, ◌∷◌, ◌^◌, IfOk, MatchOption, length, map};
 ghost use Rattle.std.specs.Prelude.{string_bytes};
 ghost use Rattle.serde_json.specs.View.{view};
-ghost use Rattle.session_workspace.specs.Steps.{AreValuesOf, HasNoFeed, ShowsAnswer, TellsSteps};
+ghost use Rattle.session_workspace.specs.Steps.{AreValuesOf, HasNoFeed, ShowsAnswer, ShowsSteps};
 ghost use Rattle.session_workspace.specs.Steps.{line_data, question_at, values_data};
 
 use crate::calls::{byte_at, options_of};
@@ -107,7 +107,7 @@ pub(crate) fn steps_at(
     most: Option<u64>,
 ) -> Result<Value, AllocError>
     requires { length session.now.text < 2 ^ 32 }
-    ensures { IfOk result (λ v. TellsSteps uri.now (map string_bytes others.now) session.now
+    ensures { IfOk result (λ v. ShowsSteps uri.now (map string_bytes others.now) session.now
         place most (view v)) }
 {
     let text = session.text();
