@@ -1,5 +1,5 @@
 -- The texts of a workspace, as a list. (For `find`, `forget`, `edit` and `tell`.)
-use Rattle.std.proofs.Common.{◌≡◌, ◌∙◌, ℕ, suc, ◌+◌, ◌<◌, ◌≤◌, List, [], ◌∷◌, ◌++◌, length, take, drop, get_or, map, refl, sym, ap, inl, inr, subst, Bool, true, false, Option, Some, None, arith, if◌then◌else◌, length-append, string_bytes}
+use Rattle.std.proofs.Common.{◌≡◌, ◌∙◌, ℕ, suc, ◌+◌, ◌<◌, ◌≤◌, List, [], ◌∷◌, ◌++◌, length, take, drop, get_or, refl, sym, ap, inl, inr, subst, Bool, true, false, Option, Some, None, arith, if◌then◌else◌, length-append, string_bytes}
 use Rattle.std.specs.Prelude.{◌⊎◌, Contains, IfErr, IfOk, OnErr, Result, Ok, Err, ℤ, option_map}
 use Rattle.std.specs.List.{insert, remove}
 use Rattle.std.proofs.Math.Seq.{get_or-append_seam}
@@ -8,7 +8,7 @@ use Rattle.std.proofs.lemmas.Slice.Eq.{bytes_eq-Decides}
 use Rattle.std.proofs.lemmas.List.{take-append-drop, take-append-le, take_all, drop-append-le, drop_all, drop_more, take_more}
 use Rattle.client_texts.specs.Params.{Change, Note}
 use Rattle.client_texts.specs.Texts.{Document, after, after_edit, with_edit, without}
-use Rattle.lsp_server.specs.Workspaces.{Follows, IsPublished, IsShown, name_of}
+use Rattle.lsp_server.specs.Workspaces.{Follows, IsPublished, name_of}
 use Rattle.serde_json.specs.Data.{Data}
 use Rattle.serde_json.specs.View.{view}
 use Rattle.serde_json.specs.declared.value.Value.{Value}

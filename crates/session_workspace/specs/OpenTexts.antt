@@ -11,7 +11,7 @@ use Rattle.expander_session.specs.declared.session.Reply.TheVariants.{Read}
 use Rattle.expander_session.specs.Count.{Looked}
 use Rattle.expander_session.specs.Replies.{HasCause, IsReplyIn}
 use Rattle.expander_session.specs.State.{State, definitions_of, layers_of}
-use Rattle.lsp_server.specs.Workspaces.{IsShown, name_of}
+use Rattle.lsp_server.specs.Workspaces.{IsShown}
 use Rattle.session_workspace.specs.Diagnostics.{diagnostics_of, publication, withdrawal}
 use Rattle.session_workspace.specs.declared.open_text.OpenText.{OpenText}
 use Rattle.session_workspace.specs.declared.workspace.Shown.{Shown}

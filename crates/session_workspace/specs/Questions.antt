@@ -106,15 +106,16 @@ abbrev pub earlier_words : (shown : List ℕ) → List ℕ
 earlier_words shown = shown ++ codes "\n\nAs of the last text that could be read."
 
 -- that is shown without a range, since the call is one of the earlier text
-abbrev pub earlier_hover : (shown : List ℕ) → Data
-earlier_hover shown =
+abbrev pub earlier_hover : (words : List ℕ) → Data
+earlier_hover words =
     object (member (codes "contents")
     (object (member (codes "kind") (string (codes "markdown"))
-    (member (codes "value") (string (earlier_words shown)) no_members))) no_members)
+    (member (codes "value") (string words) no_members))) no_members)
 
 abbrev pub ShowsEarlierHover : Option Called → Data → Type 0
 ShowsEarlierHover (Some c) value =
-    (shown : List ℕ) × IsHoverText c.gives c.faults.items shown × (value ≡ earlier_hover shown)
+    (shown : List ℕ) × IsHoverText c.gives c.faults.items shown
+    × (value ≡ earlier_hover (earlier_words shown))
 ShowsEarlierHover None value = value ≡ null
 
 -- ---- all questions

@@ -6,7 +6,8 @@ ghost use Rattle.session_workspace.specs.OpenTexts.{earlier_of};
 ghost use Rattle.session_workspace.specs.Questions.{IsHoverText, IsShort, ShowsAsOf};
 ghost use Rattle.session_workspace.specs.Questions.{ShowsEarlierHover, ShowsExpansion, ShowsHover};
 ghost use Rattle.session_workspace.specs.Questions.{ShowsTokens, code_block, earlier_front};
-ghost use Rattle.session_workspace.specs.Questions.{earlier_hover, expansion_data, hover_data};
+ghost use Rattle.session_workspace.specs.Questions.{earlier_hover, earlier_words, expansion_data};
+ghost use Rattle.session_workspace.specs.Questions.{hover_data};
 
 use crate::calls::call_at;
 use crate::earlier::earlier_call_at;
@@ -134,12 +135,18 @@ fn hover_value(alloc: Global, text: &str, called: &Option<Called>) -> Result<Val
     }
 }
 
-// That this is shown of a call as of an earlier text.
-fn earlier_hover(alloc: Global, shown: String) -> Result<Value, AllocError>
-    ensures { IfOk result (λ v. view v ≡ earlier_hover (string_bytes shown)) }
+// What is shown of a call as of an earlier text.
+fn earlier_words(alloc: Global, shown: &str) -> Result<String, AllocError>
+    ensures { IfOk result (λ words. string_bytes words ≡ earlier_words shown.now) }
 {
-    let shown = format!(in alloc; "{shown}\n\nAs of the last text that could be read.")?;
-    json!(in alloc; {"contents": {"kind": "markdown", "value": shown}})
+    format!(in alloc; "{shown}\n\nAs of the last text that could be read.")
+}
+
+// That this is shown of a call as of an earlier text.
+fn earlier_hover(alloc: Global, words: String) -> Result<Value, AllocError>
+    ensures { IfOk result (λ v. view v ≡ earlier_hover (string_bytes words)) }
+{
+    json!(in alloc; {"contents": {"kind": "markdown", "value": words}})
 }
 
 fn earlier_hover_value(alloc: Global, called: &Option<Called>) -> Result<Value, AllocError>
@@ -148,7 +155,8 @@ fn earlier_hover_value(alloc: Global, called: &Option<Called>) -> Result<Value, 
     match called {
         Some(called) => {
             let shown = hover_text(alloc, &called.gives, called.faults.as_slice())?;
-            earlier_hover(alloc, shown)
+            let words = earlier_words(alloc, shown.as_str())?;
+            earlier_hover(alloc, words)
         }
         None => Ok(Value::Null),
     }

@@ -1,5 +1,5 @@
 //! A text that a client has open.
-ghost use Rattle.std.specs.Prelude.{◌≡◌, IfOk, None, OnErr, OnOk, false, if◌then◌else◌, map};
+ghost use Rattle.std.specs.Prelude.{◌≡◌, IfOk, None, OnOk, false, if◌then◌else◌, map};
 ghost use Rattle.serde_json.specs.View.{view};
 ghost use Rattle.client_texts.specs.Texts.{after_changes, after_edit};
 ghost use Rattle.client_texts.specs.Views.{change_view};

@@ -1,7 +1,7 @@
 use Rattle.std.proofs.Common.{◌≡◌, ◌∙◌, ℕ, ap, inl, inr, if◌then◌else◌, refl, subst, sym, w64, List, map, Option, None}
 use Rattle.std.proofs.lemmas.Int.{to_z-of_z}
-use Rattle.std.specs.List.{insert, remove}
-use Rattle.client_texts.specs.Texts.{after_edit, without}
+use Rattle.std.specs.List.{insert}
+use Rattle.client_texts.specs.Texts.{after_edit}
 use Rattle.client_texts.specs.Views.{change_view}
 use Rattle.session_workspace.specs.OpenTexts.{HaveNone, IsFirst, document_of, documents_of, earlier_of, kept_of}
 use Rattle.session_workspace.specs.declared.open_text.OpenText.{OpenText}
