@@ -64,6 +64,14 @@ def place_asked(method, params):
     return place_at(params, "position")
 
 
+# How many steps parameters ask for at most: a number, or none. None for another form.
+def limit_of(params):
+    if "limit" not in params:
+        return ()
+    limit = number_at(params, "limit", 0, 2**64 - 1)
+    return None if limit is None else (limit,)
+
+
 def uri_of(params):
     return text_at(member(params, "textDocument"), "uri")
 
@@ -117,6 +125,14 @@ class Program:
         told = ran.stderr.decode().splitlines()
         return ran.stdout.decode(), [it.split(": ", 1)[1] for it in told if it.startswith("line ")]
 
+    # The lines that `trace --json` writes of the call at a place, in the program's own places.
+    def steps_at(self, text, at, limit):
+        line, column = text[:at].count("\n") + 2, at - text[:at].rfind("\n")
+        most = ["--to", str(*limit)] if limit else []
+        words = [self.path, "trace", "--json", *self.options, *most, "--", f"-:{line}:{column}"]
+        ran = subprocess.run(words, input=f"\n{text}".encode(), capture_output=True)
+        return [line_up(json.loads(it)) for it in ran.stdout.splitlines()]
+
     def can_read(self, text):
         return self.reply(text)["answer"] == "expansion"
 
@@ -131,6 +147,29 @@ class Program:
         return [
             diagnostic(fault_range(text, it["at"]), 2, it["kind"], it["message"]) for it in shown
         ]
+
+
+# A value that tells of a text behind a line feed, as one that tells of the text: its places, and
+# origins in it, are a byte and a line up.
+def line_up(value):
+    if isinstance(value, list):
+        return [line_up(it) for it in value]
+    if not isinstance(value, dict):
+        return value
+    if set(value) == {"bytes", "start", "end"}:
+        places = {it: [value[it][0] - 1, value[it][1]] for it in ("start", "end")}
+        return {"bytes": [it - 1 for it in value["bytes"]], **places}
+    found = {name: line_up(it) for name, it in value.items()}
+    if "origins" in value:
+        found["origins"] = origins_up(value["origins"])
+    return found
+
+
+def origins_up(numbers):
+    up = []
+    for text, start, end in zip(*[iter(numbers)] * 3):
+        up += [text, start - 1, end - 1] if text == 0 else [text, start, end]
+    return up
 
 
 # Where a fault is in a text that was expanded behind a line feed: its bytes and its lines agree.
@@ -211,14 +250,16 @@ class Why:
 
     EXCUSED = "no definition of this macro is known here, or no rule of it fits"
 
-    def __init__(self, words):
-        self.words = words
+    def __init__(self, words, behind=""):
+        self.words, self.behind = words, behind
 
     def __eq__(self, other):
-        return other == self.words or (other == self.EXCUSED and self.words in WITHOUT_FAULT)
+        found = isinstance(other, str) and other.removesuffix(self.behind)
+        is_excused = found == self.EXCUSED and self.words in WITHOUT_FAULT
+        return other == self.words + self.behind or (is_excused and other == found + self.behind)
 
     def __repr__(self):
-        return self.words
+        return self.words + self.behind
 
 
 # What `expand` says of a call that may have no fault.
@@ -227,15 +268,35 @@ WITHOUT_FAULT = ("no definition of this macro is known here", "no rule matches t
 
 # What comes of the call at a place, laid out, or None, and why it stays, or None.
 def called(program, text, place):
-    if not program.can_read(text):
+    return called_at(program, text, texts.index_of(text, *place))
+
+
+def called_at(program, text, at):
+    if at is None or not program.can_read(text):
         return None, None
-    laid, told = program.call_at(text, texts.index_of(text, *place))
+    laid, told = program.call_at(text, at)
     if laid or not told:
         return laid, None
     return None, None if told[0] == "no call is here" else told[0]
 
 
-def hover(program, uri, text, place):
+# Where what is at a place of a text was in an earlier one, if it was there.
+def index_before(earlier, text, place):
+    at = texts.index_of(text, *place)
+    if earlier.startswith(text[:at]):
+        return at
+    behind = text[at:]
+    return len(earlier) - len(behind) if earlier.endswith(behind) else None
+
+
+# What is said behind a hover, and in front of an expansion, that is of an earlier text.
+EARLIER_HOVER = "\n\nAs of the last text that could be read."
+EARLIER_EXPANSION = "// as of the last text that could be read\n"
+
+
+def hover(program, uri, text, place, earlier=None):
+    if earlier is not None:
+        return earlier_hover(program, text, place, earlier)
     laid, why = called(program, text, place)
     if laid is None and why is None:
         return None
@@ -244,9 +305,22 @@ def hover(program, uri, text, place):
     return {"contents": {"kind": "markdown", "value": shown}, "range": around}
 
 
-def expansion(program, uri, text, place):
-    laid, _why = called(program, text, place)
-    return None if laid is None else {"name": Name(), "expansion": laid}
+def earlier_hover(program, text, place, earlier):
+    laid, why = called_at(program, earlier, index_before(earlier, text, place))
+    if laid is None and why is None:
+        return None
+    block = f"```rust\n{laid}\n```{EARLIER_HOVER}"
+    shown = Why(why, EARLIER_HOVER) if laid is None else block
+    return {"contents": {"kind": "markdown", "value": shown}}
+
+
+def expansion(program, uri, text, place, earlier=None):
+    if earlier is None:
+        front, (laid, _why) = "", called(program, text, place)
+    else:
+        at = index_before(earlier, text, place)
+        front, (laid, _why) = EARLIER_EXPANSION, called_at(program, earlier, at)
+    return None if laid is None else {"name": Name(), "expansion": front + laid}
 
 
 # What may be done at a place: a call that gives tokens may be replaced by them.
@@ -260,15 +334,23 @@ def actions(program, uri, text, place):
     return [{"title": title, "kind": "refactor.inline", "edit": edit}]
 
 
+# The lines that tell of the steps of the call at a place, if one is there.
+def steps(program, uri, text, place, limit=()):
+    lines = program.steps_at(text, texts.index_of(text, *place), limit)
+    return lines if len(lines) > 1 else None
+
+
+HOVER, EXPANSION = "textDocument/hover", "rust-analyzer/expandMacro"
 SYMBOLS, DEFINITION = "textDocument/documentSymbol", "textDocument/definition"
-ACTIONS = "textDocument/codeAction"
+ACTIONS, STEPS = "textDocument/codeAction", "filgordd/trace"
 # Which answer each question gets: a new one has its function here.
 ANSWERS = {
     SYMBOLS: symbols,
     DEFINITION: definition,
-    "textDocument/hover": hover,
-    "rust-analyzer/expandMacro": expansion,
+    HOVER: hover,
+    EXPANSION: expansion,
     ACTIONS: actions,
+    STEPS: steps,
 }
 
 
@@ -288,11 +370,12 @@ def published(params):
 
 
 class Server:
-    """A server: its phase is new, open, shut or ended; of each text it has the version too."""
+    """A server: its phase is new, open, shut or ended. Of each text it has the version too, and of
+    one that cannot be read the last that could be."""
 
     def __init__(self, program, is_quiet=False):
         self.program, self.is_quiet = program, is_quiet
-        self.phase, self.has_asked, self.documents = "new", False, {}
+        self.phase, self.has_asked, self.documents, self.earlier = "new", False, {}, {}
 
     # The messages that go for a body.
     def take(self, body):
@@ -331,8 +414,13 @@ class Server:
         uri, place = uri_of(params), place_asked(method, params)
         if uri not in self.documents or (place is None and method != SYMBOLS):
             return failure(id, INVALID_PARAMS)
+        limit = limit_of(params) if method == STEPS else ()
+        if limit is None:
+            return failure(id, INVALID_PARAMS)
         text, _version = self.documents[uri]
-        return response(id, ANSWERS[method](self.program, uri, text, place))
+        more = [limit] if method == STEPS else []
+        more += [self.earlier.get(uri)] if method in (HOVER, EXPANSION) else []
+        return response(id, ANSWERS[method](self.program, uri, text, place, *more))
 
     def take_note(self, method, params):
         if method == "exit":
@@ -348,19 +436,33 @@ class Server:
 
     def opened(self, uri, version, params):
         text = text_at(params["textDocument"], "text")
-        return [] if None in (version, text) else self.publish(uri, version, text)
+        if None in (version, text):
+            return []
+        self.earlier.pop(uri, None)
+        return self.publish(uri, version, text)
 
     def edited(self, uri, version, params):
         changes = changes_in(params)
         if None in (version, changes) or uri not in self.documents:
             return []
-        text, _version = self.documents[uri]
+        before, _version = self.documents[uri]
+        text = before
         for places, new in changes:
             text = texts.changed(text, places, new)
+        self.keep(uri, before, text)
         return self.publish(uri, version, text)
+
+    # Keeps the last text that could be read, as long as none can be. Where no faults are told, none
+    # is kept.
+    def keep(self, uri, before, text):
+        if self.is_quiet or self.program.can_read(text):
+            self.earlier.pop(uri, None)
+        elif self.program.can_read(before):
+            self.earlier[uri] = before
 
     def closed(self, uri, _version, _params):
         self.documents.pop(uri, None)
+        self.earlier.pop(uri, None)
         return [published({"uri": uri, "diagnostics": []})]
 
     # A text becomes another, of which the client is told.

@@ -223,10 +223,16 @@ class Client:
 
     def question(self):
         uri, method = self.uri(), self.pick([model.DEFINITION, *model.ANSWERS])
+        unread = list(self.server.earlier)
+        if unread and self.is_likely(60):
+            uri, method = self.pick(unread), self.pick([model.HOVER, model.EXPANSION])
         place = self.called_place(uri)
         about = {"position": place}
         if method == model.ACTIONS:
             about = {"range": {"start": place, "end": self.pick([place, FAR[0]])}, "context": {}}
+        if method == model.STEPS and self.is_likely(40):
+            odd = [-1, 1.5, None, "2"]
+            about["limit"] = self.pick(odd if self.is_likely(15) else [0, 1, 2, 3, 2**64 - 1])
         params = {"textDocument": {"uri": uri}, **about}
         if self.is_likely(10):
             params = self.pick([None, [], {}, {"textDocument": {"uri": uri}}, about])

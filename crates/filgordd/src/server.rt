@@ -8,7 +8,8 @@ use any_grammar::AnyGrammar;
 use cfg_options::CfgOptions;
 use expander::{Options, Prelude};
 use program_files::{
-    Disk, Ended, Sources, Whole, prelude_of, prelude_of_path, sources_of, stopped,
+    Disk, Ended, Sources, Whole, names_of, names_of_whole, prelude_of, prelude_of_path, sources_of,
+    stopped,
 };
 use session_workspace::{Setup, Shown, end_words, serve_texts};
 use std::alloc::{AllocError, Global};
@@ -52,6 +53,13 @@ impl Setup for Texts<'_> {
                 let path = path.as_ref().map_or("", String::as_str);
                 prelude_of_path(alloc, &self.disk, whole, path)
             }
+        }
+    }
+
+    fn names(&self, alloc: Global) -> Result<Vec<String>, AllocError> {
+        match &self.given {
+            Given::Sources(sources) => names_of(alloc, sources),
+            Given::Crate(whole) => names_of_whole(alloc, whole),
         }
     }
 }

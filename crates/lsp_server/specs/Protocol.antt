@@ -5,7 +5,7 @@ use Rattle.serde_json.specs.Data.{Data}
 use Rattle.rpc_messages.specs.Messages.{method_of}
 use Rattle.client_texts.specs.Params.{Note, closed_in, edited_in, opened_in}
 use Rattle.lsp_server.specs.declared.method.Method.{Method}
-use Rattle.lsp_server.specs.declared.method.Method.TheVariants.{Initialize, DidOpen, DidChange, DidClose, Hover, Definition, DocumentSymbol, ExpandMacro, CodeAction, Shutdown, Exit}
+use Rattle.lsp_server.specs.declared.method.Method.TheVariants.{Initialize, DidOpen, DidChange, DidClose, Hover, Definition, DocumentSymbol, ExpandMacro, CodeAction, Trace, Shutdown, Exit}
 use Rattle.lsp_server.specs.declared.phase.Phase.{Phase}
 use Rattle.lsp_server.specs.declared.phase.Phase.TheVariants.{New, Open, Shut, Ended}
 use Rattle.lsp_server.specs.declared.phase.ErrorCode.{ErrorCode}
@@ -23,6 +23,7 @@ method_named name =
     if bytes_eq name (codes "textDocument/documentSymbol") then Some DocumentSymbol else
     if bytes_eq name (codes "rust-analyzer/expandMacro") then Some ExpandMacro else
     if bytes_eq name (codes "textDocument/codeAction") then Some CodeAction else
+    if bytes_eq name (codes "filgordd/trace") then Some Trace else
     if bytes_eq name (codes "shutdown") then Some Shutdown else
     if bytes_eq name (codes "exit") then Some Exit else None
 
@@ -40,6 +41,7 @@ refused_open Definition = None
 refused_open DocumentSymbol = None
 refused_open ExpandMacro = None
 refused_open CodeAction = None
+refused_open Trace = None
 refused_open Shutdown = None
 refused_open _ = Some UnknownMethod
 

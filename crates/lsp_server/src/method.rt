@@ -14,6 +14,7 @@ pub enum Method {
     DocumentSymbol,
     ExpandMacro,
     CodeAction,
+    Trace,
     Shutdown,
     Exit,
 }
@@ -32,6 +33,7 @@ pub(crate) fn method_named(name: &str) -> Option<Method>
         "textDocument/documentSymbol" => Some(Method::DocumentSymbol),
         "rust-analyzer/expandMacro" => Some(Method::ExpandMacro),
         "textDocument/codeAction" => Some(Method::CodeAction),
+        "filgordd/trace" => Some(Method::Trace),
         "shutdown" => Some(Method::Shutdown),
         "exit" => Some(Method::Exit),
         _ => None,

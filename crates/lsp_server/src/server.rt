@@ -79,6 +79,14 @@ fn note_told<'a>(
     }
 }
 
+// How many steps are wanted at most, if parameters say so. `None` if they say it in another form.
+fn limit_in(params: &Value) -> Option<Option<u64>> {
+    match params.get("limit") {
+        Some(limit) => Some(Some(limit.as_u64()?)),
+        None => Some(None),
+    }
+}
+
 // What a request asks about a text, and the text's name. `None` if the parameters have another
 // form, or it asks about none.
 fn question_of(method: Method, params: &Value) -> Option<(Question, &str)> {
@@ -96,6 +104,7 @@ fn question_of(method: Method, params: &Value) -> Option<(Question, &str)> {
         Method::Hover => Some((Question::Hover(place), uri)),
         Method::Definition => Some((Question::Definition(place), uri)),
         Method::ExpandMacro => Some((Question::Expansion(place), uri)),
+        Method::Trace => Some((Question::Steps(place, limit_in(params)?), uri)),
         _ => None,
     }
 }

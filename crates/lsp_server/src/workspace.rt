@@ -23,6 +23,8 @@ pub enum Question {
     Expansion(Position),
     /// What may be done at a place.
     Actions(Position),
+    /// Which steps the call at a place has, and how many of them are wanted at most.
+    Steps(Position, Option<u64>),
 }
 
 /// What keeps the client's texts and answers about them.

@@ -30,11 +30,12 @@ pub use files::{misused, opened, read_whole, refused, stopped};
 pub use lacking::tell_lacks;
 pub use listing::listed;
 pub use load::{
-    Ended, OtherWords, Others, Sources, fault_words, others_of, prelude_of, refusal, sources_of,
+    Ended, OtherWords, Others, Sources, fault_words, names_of, others_of, prelude_of, refusal,
+    sources_of,
 };
 pub use module_ends::file_text;
 pub use shown::{one_line, push_shown};
 pub use source::blank_front;
 pub use told::fault_lines;
 pub use walked::Walked;
-pub use whole::{Whole, prelude_of_file, prelude_of_path, whole_from};
+pub use whole::{Whole, names_of_whole, prelude_of_file, prelude_of_path, whole_from};

@@ -272,10 +272,10 @@ pub fn prelude_of(alloc: Global, sources: &Sources) -> Result<Prelude, TtFault> 
     Ok(prelude)
 }
 
-// The names of files, in order.
-fn names_of(alloc: Global, files: &[Loaded]) -> Result<Vec<String>, AllocError> {
+/// The names of the files that sources come from, in order of the sources' numbers, from 1.
+pub fn names_of(alloc: Global, sources: &Sources) -> Result<Vec<String>, AllocError> {
     let mut names = Vec::new(alloc);
-    for file in files {
+    for file in &sources.files {
         names.push(String::from_str(alloc, file.name.as_str())?)?;
     }
     Ok(names)
@@ -284,7 +284,7 @@ fn names_of(alloc: Global, files: &[Loaded]) -> Result<Vec<String>, AllocError> 
 /// The definitions of the library and of the other files, that a text is expanded after.
 pub fn others_of(rt: &HostRuntime, words: OtherWords<'_>) -> Result<Others, Ended> {
     let sources = sources_of(rt, words)?;
-    let names = names_of(rt.alloc(), sources.files.as_slice())?;
+    let names = names_of(rt.alloc(), &sources)?;
     match prelude_of(rt.alloc(), &sources) {
         Ok(prelude) => Ok(Others { prelude, names }),
         Err(fault) => refusal(rt, "definitions of other files", fault_words(fault)),

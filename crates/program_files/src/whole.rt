@@ -5,12 +5,12 @@ use crate::chosen::{file_at, numbers};
 use crate::disk::Disk;
 use crate::externs::{Extern, externs_of, push_event};
 use crate::imports::Import;
-use crate::load::{Ended, OtherWords, Sources, prelude_of, sources_of};
+use crate::load::{Ended, OtherWords, Sources, names_of, prelude_of, sources_of};
 use crate::walked::{Walked, crate_from};
 use crate_picks::push_places;
-use crate_walk::{Event, Place};
+use crate_walk::{Event, Modules, Place};
 use expander::Prelude;
-use std::alloc::Global;
+use std::alloc::{AllocError, Global};
 use std::collections::BTreeMap;
 use tt_data::TtFault;
 
@@ -172,4 +172,24 @@ pub fn prelude_of_path(
         Some(file) => prelude_of_file(alloc, whole, file),
         None => prelude_of(alloc, &whole.sources),
     }
+}
+
+// Adds the names of a crate's files.
+fn push_names(alloc: Global, modules: &Modules, names: &mut Vec<String>) -> Result<(), AllocError> {
+    for file in 0..modules.file_count() {
+        let name = modules.file_name(file).unwrap_or("");
+        names.push(String::from_str(alloc, name)?)?;
+    }
+    Ok(())
+}
+
+/// The names of the files that definitions come from, in order of their sources' numbers, from 1:
+/// those of the library and of single files, those of other crates, and those of the crate.
+pub fn names_of_whole(alloc: Global, whole: &Whole) -> Result<Vec<String>, AllocError> {
+    let mut names = names_of(alloc, &whole.sources)?;
+    for one in &whole.externs {
+        push_names(alloc, &one.walked.modules, &mut names)?;
+    }
+    push_names(alloc, &whole.walked.modules, &mut names)?;
+    Ok(names)
 }

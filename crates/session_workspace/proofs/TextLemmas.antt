@@ -1,19 +1,20 @@
 -- The texts of a workspace, as a list. (For `find`, `forget`, `edit` and `tell`.)
-use Rattle.std.proofs.Common.{◌≡◌, ◌∙◌, ℕ, suc, ◌+◌, ◌<◌, ◌≤◌, List, [], ◌∷◌, ◌++◌, length, take, drop, get_or, map, refl, sym, ap, inl, inr, subst, Bool, true, false, Option, Some, None, arith, length-append}
+use Rattle.std.proofs.Common.{◌≡◌, ◌∙◌, ℕ, suc, ◌+◌, ◌<◌, ◌≤◌, List, [], ◌∷◌, ◌++◌, length, take, drop, get_or, refl, sym, ap, inl, inr, subst, Bool, true, false, Option, Some, None, arith, if◌then◌else◌, length-append, string_bytes}
 use Rattle.std.specs.Prelude.{◌⊎◌, Contains, IfErr, IfOk, OnErr, Result, Ok, Err, ℤ, option_map}
 use Rattle.std.specs.List.{insert, remove}
 use Rattle.std.proofs.Math.Seq.{get_or-append_seam}
 use Rattle.std.proofs.lemmas.Grind.{common_steps}
+use Rattle.std.proofs.lemmas.Slice.Eq.{bytes_eq-Decides}
 use Rattle.std.proofs.lemmas.List.{take-append-drop, take-append-le, take_all, drop-append-le, drop_all, drop_more, take_more}
 use Rattle.client_texts.specs.Params.{Change, Note}
 use Rattle.client_texts.specs.Texts.{Document, after, after_edit, with_edit, without}
-use Rattle.lsp_server.specs.Workspaces.{Follows, IsPublished, IsShown, name_of}
+use Rattle.lsp_server.specs.Workspaces.{Follows, IsPublished, name_of}
 use Rattle.serde_json.specs.Data.{Data}
 use Rattle.serde_json.specs.View.{view}
 use Rattle.serde_json.specs.declared.value.Value.{Value}
 use Rattle.std.specs.declared.alloc.AllocError.{AllocError}
 use Rattle.session_workspace.specs.declared.lost.Lost.{Lost}
-use Rattle.session_workspace.specs.OpenTexts.{HaveNone, IsFirst, IsLost, IsTold, IsToldOf, document_of, documents_of, is_named}
+use Rattle.session_workspace.specs.OpenTexts.{HaveNone, IsFirst, IsLost, IsTold, document_of, documents_of, is_named}
 use Rattle.session_workspace.specs.declared.open_text.OpenText.{OpenText}
 use Rattle.session_workspace.specs.declared.workspace.Shown.{Shown}
 use Rattle.session_workspace.specs.declared.workspace.Shown.TheVariants as which
@@ -110,13 +111,11 @@ text_at texts i t uri first within is =
     sym split ∙ first.is in
     is ∙ ap (λ (ts : List OpenText). get_or ts 0 t) both
 
--- a text is put where it was, after changes
-pub first_changed : (uri : List ℕ) (version : ℤ) (changes : List Change) (texts : List OpenText)
-    (i : ℕ) (new : OpenText) (first : IsFirst uri texts i)
-    → document_of new ≡ after_edit version changes (document_of first.text)
-    → documents_of (insert (remove texts i) i new)
-    ≡ with_edit uri version changes (documents_of texts)
-first_changed uri version changes texts i new first is =
+-- a text is put where the first of a name was
+pub put_back : (uri : List ℕ) (texts : List OpenText) (i : ℕ) (new : OpenText)
+    (first : IsFirst uri texts i)
+    → insert (remove texts i) i new ≡ take i texts ++ new ∷ drop (i + 1) texts
+put_back uri texts i new first =
     let within : i < length texts = first.within in
     let enough : i ≤ length (take i texts) = grind (arith, common_steps) in
     let short : length (take i texts) ≤ i = grind (arith, common_steps) in
@@ -128,10 +127,20 @@ first_changed uri version changes texts i new first is =
     drop-append-le i (take i texts) (drop (suc i) texts) enough
     ∙ ap (λ (ts : List OpenText). ts ++ drop (suc i) texts) (drop_all i (take i texts) short)
     ∙ ap (λ (n : ℕ). drop n texts) next in
-    rw (front, back) (sym (ap (λ (ts : List OpenText). with_edit uri version changes
-    (documents_of ts)) (parts_of uri texts i first)
+    rw (front, back) refl
+
+-- then it has been changed
+pub first_changed : (uri : List ℕ) (version : ℤ) (changes : List Change) (texts : List OpenText)
+    (i : ℕ) (new : OpenText) (first : IsFirst uri texts i)
+    → document_of new ≡ after_edit version changes (document_of first.text)
+    → documents_of (insert (remove texts i) i new)
+    ≡ with_edit uri version changes (documents_of texts)
+first_changed uri version changes texts i new first is =
+    ap documents_of (put_back uri texts i new first)
+    ∙ sym (ap (λ (ts : List OpenText). with_edit uri version changes (documents_of ts))
+    (parts_of uri texts i first)
     ∙ edit_parts uri version changes (take i texts) (drop (i + 1) texts) first.text new
-    first.before first.named is))
+    first.before first.named is)
 
 -- a text between others is among them
 pub among : (front back : List OpenText) (t : OpenText) → Contains (front ++ t ∷ back) t
@@ -156,12 +165,12 @@ published which.All t message told = (_, told.is)
 published which.Nothing t message told = absurd cc
 
 -- the texts follow, and what is sent for a text goes
-pub follows_told : (shown : Shown) (note : Note) (old new : List Document) (texts : List OpenText)
-    (message : Option Data) → new ≡ after note old → IsToldOf shown texts message
+pub follows_told : (shown : Shown) (note : Note) (old new : List Document) (t : OpenText)
+    (message : Option Data) → new ≡ after note old → IsTold shown t message
     → Follows note old new message
-follows_told shown note old new texts None is told = is
-follows_told shown note old new texts (Some message) is told =
-    inl (is, published shown told.0 message told.2)
+follows_told shown note old new t None is told = is
+follows_told shown note old new t (Some message) is told =
+    inl (is, published shown t message told)
 
 -- or a text was lost, and that is shown
 pub follows_lost : (note : Note) (old new : List Document) (message : Option Data)
@@ -185,3 +194,16 @@ told_or_lost (Err e) done P same lost told = tt
 told_or_lost (Ok m) (Ok t) P same lost told =
     inl (subst (λ (o : Option Value). P (option_map view o)) (sym same) told)
 told_or_lost (Ok m) (Err why) P same lost told = inr lost
+
+-- ---- what is kept
+
+-- where nothing is kept, nothing is dropped
+pub kept_none : {A : Type 0} (is_read : Bool) (kept : Option A) → kept ≡ None
+    → (if is_read then None else kept) ≡ None
+kept_none true kept none = refl
+kept_none false kept none = none
+
+-- a text that is named so has the name
+pub is_own_name : (uri : List ℕ) (t : OpenText) → string_bytes t.uri ≡ uri
+    → is_named uri t ≡ true
+is_own_name uri t same = rw same ((bytes_eq-Decides uri uri).1 refl)

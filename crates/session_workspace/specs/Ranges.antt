@@ -1,7 +1,8 @@
 -- Ranges of a text as a client names them. (LSP 3.17, "Position" and "Range".)
 use Rattle.std.specs.Prelude.{ℕ, ◌≤◌, List, codes, length, min}
 use Rattle.serde_json.specs.Data.{Data, number, object, member, no_members, unsigned}
-use Rattle.line_index.specs.Lines.{IsPositionOf, column_of, line_of}
+use Rattle.line_index.specs.Lines.{IsPositionOf, column_of, line_of, offset_of}
+use Rattle.line_index.specs.declared.positions.Position.{Position}
 use Rattle.tt_data.specs.declared.span.TextRange.{TextRange}
 use Rattle.session_workspace.specs.declared.ranges.Spot.{Spot}
 
@@ -21,6 +22,10 @@ abbrev pub range_data : List ℕ → TextRange → Data
 range_data text range =
     object (member (codes "end") (place_data text range.«end»)
     (member (codes "start") (place_data text range.start) no_members))
+
+-- the byte at a position
+abbrev pub byte_at : List ℕ → Position → ℕ
+byte_at text p = min (length text) (offset_of text p.line p.column)
 
 -- a byte within the text or at its end, with its position
 pub record IsSpot (text : List ℕ) (s : Spot) : Type 0 where

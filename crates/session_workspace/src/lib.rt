@@ -6,6 +6,8 @@ mod actions;
 mod calls;
 mod definitions;
 mod diagnostics;
+mod earlier;
+mod expansions;
 mod lost;
 mod names;
 mod open_text;
@@ -13,6 +15,7 @@ mod outline;
 mod ranges;
 mod serving;
 mod setup;
+mod steps;
 mod workspace;
 
 pub use serving::{end_words, serve_texts};

@@ -1,17 +1,19 @@
 //! A text that a client has open.
-ghost use Rattle.std.specs.Prelude.{◌≡◌, IfOk, OnOk, OnErr, map};
+ghost use Rattle.std.specs.Prelude.{◌≡◌, IfOk, None, OnOk, false, if◌then◌else◌, map};
 ghost use Rattle.serde_json.specs.View.{view};
 ghost use Rattle.client_texts.specs.Texts.{after_changes, after_edit};
 ghost use Rattle.client_texts.specs.Views.{change_view};
-ghost use Rattle.session_workspace.specs.OpenTexts.{Publishes, document_of};
+ghost use Rattle.session_workspace.specs.OpenTexts.{Publishes, document_of, earlier_of};
+ghost use Rattle.session_workspace.specs.OpenTexts.{is_expansion, kept_of};
 
 use crate::diagnostics::{diagnostics_of, publication};
 use crate::lost::Lost;
 use any_grammar::AnyGrammar;
 use client_texts::{Change, edit_of};
-use expander_session::session::Session;
+use expander_scope::refusal::Refusal;
+use expander_session::session::{Reply, Session};
 use serde_json::Value;
-use std::alloc::Global;
+use std::alloc::{AllocError, Global};
 
 /// A text that a client has open: its name, its version, and a session over it.
 #[derive(Drop)]
@@ -19,6 +21,21 @@ pub(crate) struct OpenText {
     pub(crate) uri: String,
     pub(crate) version: i64,
     pub(crate) session: Session<AnyGrammar>,
+    /// Whether the text could be read when its diagnostics were made. Else they were not made, or
+    /// it could not be.
+    pub(crate) is_read: bool,
+    /// The last text before it that could be read, if there is one and it cannot be.
+    pub(crate) earlier: Option<String>,
+}
+
+// Whether a session's text could be read.
+fn is_expansion(given: &Result<Reply, Refusal>) -> bool
+    ensures { result ≡ is_expansion given.now }
+{
+    match given {
+        Ok(Reply::Read(_)) => true,
+        _ => false,
+    }
 }
 
 // Changes the text of a session. If that is refused, some changes may have been made.
@@ -37,23 +54,63 @@ fn change(session: &mut Session<AnyGrammar>, changes: &[Change<'_>]) -> Result<(
 }
 
 impl OpenText {
+    // Keeps the text as the last one that could be read, if it could be.
+    fn keep(&mut self, alloc: Global) -> Result<(), AllocError>
+        ensures kept { OnOk result (earlier_of self.new ≡ kept_of self.old) }
+        ensures unread { OnOk result (self.new.is_read ≡ false) }
+        ensures session { self.new.session ≡ self.old.session }
+        ensures same { document_of self.new ≡ document_of self.old }
+    {
+        if self.is_read {
+            let text = String::from_str(alloc, self.session.text())?;
+            self.earlier = Some(text);
+            self.is_read = false;
+        }
+        Ok(())
+    }
+
     /// Makes these changes, one after the other, after which the text has this version. If that is
     /// refused, some of them may have been made.
-    pub(crate) fn edit(&mut self, version: i64, changes: &[Change<'_>]) -> Result<(), Lost>
-        ensures { OnOk result (document_of self.new
+    pub(crate) fn edit(
+        &mut self,
+        alloc: Global,
+        version: i64,
+        changes: &[Change<'_>],
+    ) -> Result<(), Lost>
+        ensures edited { OnOk result (document_of self.new
             ≡ after_edit version (map change_view changes.now) (document_of self.old)) }
+        ensures kept { OnOk result (earlier_of self.new ≡ kept_of self.old) }
+        ensures unread { OnOk result (self.new.is_read ≡ false) }
     {
+        self.keep(alloc)?;
         change(&mut self.session, changes)?;
         self.version = version;
         Ok(())
     }
 
+    // Notes whether the text could be read. If so, nothing is kept.
+    fn note(&mut self, is_read: bool)
+        ensures read { self.new.is_read ≡ is_read }
+        ensures earlier { earlier_of self.new
+            ≡ (if is_read then None else earlier_of self.old) }
+        ensures session { self.new.session ≡ self.old.session }
+        ensures same { document_of self.new ≡ document_of self.old }
+    {
+        self.is_read = is_read;
+        if is_read {
+            self.earlier = None;
+        }
+    }
+
     /// The notification of the text's diagnostics.
     pub(crate) fn publication(&mut self, alloc: Global) -> Result<Value, Lost>
         ensures published { IfOk result (λ v. Publishes self.new (view v)) }
+        ensures earlier { earlier_of self.new
+            ≡ (if self.new.is_read then None else earlier_of self.old) }
         ensures same { document_of self.new ≡ document_of self.old }
     {
         let given = self.session.expansion();
+        self.note(is_expansion(&given));
         let text = self.session.text();
         if text.len() > u32::MAX as usize {
             return Err(Lost::TooLong);

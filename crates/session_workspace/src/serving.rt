@@ -28,7 +28,8 @@ pub fn serve_texts<R: Read, W: Write, S: Setup + Drop>(
         (Consumes (R.remaining reader.old) (R.remaining reader.new))
         (Appends (W.contents writer.old) (W.contents writer.new))) }
 {
-    let workspace = SessionWorkspace::new(alloc, setup, shown);
+    let others = setup.names(alloc)?;
+    let workspace = SessionWorkspace::new(alloc, setup, shown, others);
     let asked = serve(alloc, reader, writer, workspace)?;
     Ok(asked)
 }

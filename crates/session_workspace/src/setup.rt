@@ -17,6 +17,9 @@ pub trait Setup {
 
     /// The definitions of other texts that the text of this name is expanded after.
     fn prelude(&self, alloc: Global, uri: &str) -> Result<Prelude, TtFault>;
+
+    /// The names of the texts that those definitions come from, in order of their numbers, from 1.
+    fn names(&self, alloc: Global) -> Result<Vec<String>, AllocError>;
 }
 
 /// A session over a text of at most `u32::MAX` bytes, which has this name.

@@ -1,25 +1,25 @@
 //! The workspace of sessions.
-ghost use Rattle.std.specs.Prelude.{◌≡◌, ◌<◌, ◌^◌, ◌++◌, ◌∷◌, [], IfErr, IfOk, OnErr, OnOk, length};
-ghost use Rattle.std.specs.Prelude.{map, option_map};
+ghost use Rattle.std.specs.Prelude.{◌≡◌, ◌++◌, ◌∷◌, [], IfErr, IfOk, MatchBool, None, OnErr, OnOk};
+ghost use Rattle.std.specs.Prelude.{false, if◌then◌else◌, map, option_map, string_bytes};
 ghost use Rattle.serde_json.specs.View.{view};
 ghost use Rattle.client_texts.specs.Texts.{with_edit, without};
 ghost use Rattle.client_texts.specs.Views.{change_view, note_view};
 ghost use Rattle.lsp_server.specs.Workspaces.{Follows};
-ghost use Rattle.session_workspace.specs.OpenTexts.{IsFirstOf, IsLost, IsTold, IsToldIfOpen};
-ghost use Rattle.session_workspace.specs.OpenTexts.{IsToldOf, Tells, document_of, documents_of};
-ghost use Rattle.session_workspace.specs.Questions.{Answers, IsAnswered};
+ghost use Rattle.session_workspace.specs.OpenTexts.{IsFirstOf, IsLost, IsOpened, IsTold};
+ghost use Rattle.session_workspace.specs.OpenTexts.{IsToldIfOpen, Tells, document_of, documents_of};
+ghost use Rattle.session_workspace.specs.OpenTexts.{earlier_of};
+ghost use Rattle.session_workspace.specs.Questions.{Answers, IsAnswered, IsShort};
 
 use crate::actions::actions_at;
-use crate::calls::{expansion_at, hover_at};
 use crate::definitions::definition_at;
 use crate::diagnostics::withdrawal;
+use crate::expansions::{expansion_at, hover_at};
 use crate::lost::{Lost, loss_message};
 use crate::open_text::OpenText;
 use crate::outline::symbols_of;
 use crate::setup::{Setup, session_over};
-use any_grammar::AnyGrammar;
+use crate::steps::steps_at;
 use client_texts::{Change, Note};
-use expander_session::session::Session;
 use lsp_server::{Question, Workspace};
 use pieced_text::PiecedText;
 use serde_json::Value;
@@ -40,31 +40,47 @@ pub struct SessionWorkspace<S> {
     pub(crate) alloc: Global,
     pub(crate) setup: S,
     pub(crate) shown: Shown,
+    /// The names of the texts that definitions come from, in order of their numbers, from 1.
+    pub(crate) others: Vec<String>,
     pub(crate) texts: Vec<OpenText>,
     /// The text that was asked about last, if there is one. It may be one that is closed.
     pub(crate) asked: Option<PiecedText>,
 }
 
-// The answer to a question about a session's text, which has this name. `asked` is the text that
-// was asked about last.
+// Whether a session's text has less than 2^32 bytes, and so has the one that is kept.
+fn is_short(open: &OpenText) -> bool
+    ensures { MatchBool result (IsShort open.now) (IsShort open.now → ⊥) }
+{
+    let most = u32::MAX as usize;
+    match &open.earlier {
+        Some(earlier) if earlier.len() > most => false,
+        _ => open.session.text().len() <= most,
+    }
+}
+
+// The answer to a question about an open text, which has this name. `others` are the names of the
+// texts that definitions come from, and `asked` is the text that was asked about last.
 fn answer_of(
     alloc: Global,
     question: Question,
     uri: &str,
-    session: &Session<AnyGrammar>,
+    others: &[String],
+    open: &OpenText,
     asked: &mut Option<PiecedText>,
 ) -> Result<Value, AllocError>
-    ensures { IfOk result (λ v.
-        length session.now.text < 2 ^ 32 → Answers question uri.now session.now (view v)) }
+    ensures { IfOk result (λ v. IsShort open.now → Answers question uri.now
+        (map string_bytes others.now) open.now (view v)) }
 {
-    let text = session.text();
-    if text.len() > u32::MAX as usize {
+    if !is_short(open) {
         return Ok(Value::Null);
     }
+    let session = &open.session;
+    let text = session.text();
     match question {
-        Question::Hover(place) => hover_at(alloc, session, place, asked),
-        Question::Expansion(place) => expansion_at(alloc, session, place, asked),
+        Question::Hover(place) => hover_at(alloc, open, place, asked),
+        Question::Expansion(place) => expansion_at(alloc, open, place, asked),
         Question::Actions(place) => actions_at(alloc, uri, session, place, asked),
+        Question::Steps(place, most) => steps_at(alloc, uri, others, session, place, most),
         Question::Symbols => symbols_of(alloc, text),
         Question::Definition(place) => definition_at(alloc, uri, text, place),
     }
@@ -84,14 +100,16 @@ fn find(texts: &[OpenText], uri: &str) -> Option<usize>
 }
 
 impl<S: Setup> SessionWorkspace<S> {
-    /// A workspace in which no text is open.
-    pub fn new(alloc: Global, setup: S, shown: Shown) -> SessionWorkspace<S>
+    /// A workspace in which no text is open. `others` are the names of the texts that definitions
+    /// come from, in order of their numbers, from 1.
+    pub fn new(alloc: Global, setup: S, shown: Shown, others: Vec<String>) -> SessionWorkspace<S>
         ensures { documents_of result.texts.items ≡ [] }
     {
         SessionWorkspace {
             alloc,
             setup,
             shown,
+            others,
             texts: Vec::new(alloc),
             asked: None,
         }
@@ -110,7 +128,10 @@ impl<S: Setup> SessionWorkspace<S> {
 
     // What the client is sent for a text.
     fn publication(&self, text: &mut OpenText) -> Result<Option<Value>, Lost>
+        requires { text.old.is_read ≡ false }
         ensures told { IfOk result (λ m. IsTold self.now.shown text.new (option_map view m)) }
+        ensures earlier { earlier_of text.new
+            ≡ (if text.new.is_read then None else earlier_of text.old) }
         ensures same { document_of text.new ≡ document_of text.old }
     {
         match self.shown {
@@ -121,8 +142,9 @@ impl<S: Setup> SessionWorkspace<S> {
 
     // A text that the client opened.
     fn opened(&self, uri: &str, version: i64, text: &str) -> Result<OpenText, Lost>
-        ensures { IfOk result (λ t. document_of t
+        ensures document { IfOk result (λ t. document_of t
             ≡ record { uri = uri.now; version = version; text = text.now }) }
+        ensures earlier { IfOk result (λ t. (earlier_of t ≡ None) × (t.is_read ≡ false)) }
     {
         if text.len() > u32::MAX as usize {
             return Err(Lost::TooLong);
@@ -133,6 +155,8 @@ impl<S: Setup> SessionWorkspace<S> {
             uri,
             version,
             session,
+            is_read: false,
+            earlier: None,
         })
     }
 
@@ -145,7 +169,7 @@ impl<S: Setup> SessionWorkspace<S> {
             ≡ documents_of self.old.texts.items) }
         ensures shown { self.new.shown ≡ self.old.shown }
         ensures told { IfOk result (λ m.
-            IsToldOf self.old.shown self.new.texts.items (option_map view m)) }
+            IsOpened self.old.shown uri.now self.new.texts.items (option_map view m)) }
     {
         let mut text = self.opened(uri, version, text)?;
         let message = self.publication(&mut text)?;
@@ -172,7 +196,7 @@ impl<S: Setup> SessionWorkspace<S> {
             return Ok(None);
         };
         let mut text = self.texts.remove(i);
-        text.edit(version, changes)?;
+        text.edit(self.alloc, version, changes)?;
         let message = self.publication(&mut text)?;
         self.texts.insert(i, text)?;
         Ok(message)
@@ -225,7 +249,8 @@ impl<S: Setup> Workspace for SessionWorkspace<S> {
     fn ask(&mut self, question: Question, uri: &str) -> Result<Option<Value>, AllocError>
         ensures same { documents_of self.new.texts.items ≡ documents_of self.old.texts.items }
         ensures answered { IfOk result (λ answer. IsAnswered question uri.now
-            self.old.texts.items (option_map view answer)) }
+            (map string_bytes self.old.others.items) self.old.texts.items
+            (option_map view answer)) }
     {
         let Some(i) = find(self.texts.as_slice(), uri) else {
             return Ok(None);
@@ -234,7 +259,8 @@ impl<S: Setup> Workspace for SessionWorkspace<S> {
             self.alloc,
             question,
             uri,
-            &self.texts[i].session,
+            self.others.as_slice(),
+            &self.texts[i],
             &mut self.asked,
         )?;
         Ok(Some(answer))

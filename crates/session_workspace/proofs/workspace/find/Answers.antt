@@ -1,4 +1,4 @@
-use Rattle.std.proofs.Common.{arith, ◌≡◌, ◌∙◌, ap, sym, subst, false, true, take, List}
+use Rattle.std.proofs.Common.{arith, ◌≡◌, subst, false, true, List}
 use Rattle.std.proofs.lemmas.List.{take_all}
 use Rattle.session_workspace.specs.OpenTexts.{HaveNone, is_named}
 use Rattle.session_workspace.specs.declared.open_text.OpenText.{OpenText}

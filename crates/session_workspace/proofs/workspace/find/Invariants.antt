@@ -1,4 +1,4 @@
-use Rattle.std.specs.Prelude.{string_bytes, take}
+use Rattle.std.specs.Prelude.{take}
 use Rattle.session_workspace.specs.OpenTexts.{HaveNone}
 use Rattle.session_workspace.proofs.workspace.find.Given as given
 

@@ -1,12 +1,11 @@
-use Rattle.std.proofs.Common.{◌≡◌, ◌∙◌, ap, inl, inr, refl, subst, sym, w64, List, map, drop, take}
+use Rattle.std.proofs.Common.{◌≡◌, ◌∙◌, ℕ, ap, inl, inr, if◌then◌else◌, refl, subst, sym, w64, List, map, Option, None}
 use Rattle.std.proofs.lemmas.Int.{to_z-of_z}
-use Rattle.std.specs.Prelude.{Contains}
-use Rattle.std.specs.List.{insert, remove}
-use Rattle.client_texts.specs.Texts.{after_edit, without}
+use Rattle.std.specs.List.{insert}
+use Rattle.client_texts.specs.Texts.{after_edit}
 use Rattle.client_texts.specs.Views.{change_view}
-use Rattle.session_workspace.specs.OpenTexts.{HaveNone, IsFirst, document_of, documents_of}
+use Rattle.session_workspace.specs.OpenTexts.{HaveNone, IsFirst, document_of, documents_of, earlier_of, kept_of}
 use Rattle.session_workspace.specs.declared.open_text.OpenText.{OpenText}
-use Rattle.session_workspace.proofs.TextLemmas.{among, edit_none, first_changed, first_removed, on_err, text_at}
+use Rattle.session_workspace.proofs.TextLemmas.{edit_none, first_changed, first_removed, on_err, put_back, text_at}
 use Rattle.session_workspace.proofs.workspace.SessionWorkspace.edit.Goals as goal
 
 pub returns-in_default-clause-ok : goal.returns-in_default-clause-ok
@@ -48,7 +47,7 @@ returns-clause-ok g c =
     let taken : c.remove-text.result ≡ first.text =
     text_at c.args.self.now.texts.items c.in-Some.i c.remove-text.result c.args.uri.now first
     first.within c.remove-text.ensures.value in
-    let given = c.in_ok-edit.ensures in
+    let given = c.in_ok-edit.ensures.edited in
     let done : document_of c.edit.new.self
     ≡ after_edit c.args.version (map change_view c.args.changes.now)
     (document_of c.remove-text.result) =
@@ -68,11 +67,28 @@ returns-clause-ok g c =
 
 pub returns-clause-told : goal.returns-clause-told
 returns-clause-told g c =
+    let first : IsFirst c.args.uri.now c.args.self.now.texts.items c.in-Some.i =
+    subst (λ (ts : List OpenText). IsFirst c.args.uri.now ts c.in-Some.i)
+    c.as_slice.ensures.value c.in-Some.ensures in
+    let taken : c.remove-text.result ≡ first.text =
+    text_at c.args.self.now.texts.items c.in-Some.i c.remove-text.result c.args.uri.now first
+    first.within c.remove-text.ensures.value in
     let items : c.insert.new.self.items
     ≡ insert c.remove-text.new.self.items c.in-Some.i c.publication.new.text =
     c.in_ok-insert.ensures.items in
-    let has : Contains c.insert.new.self.items c.publication.new.text =
-    subst (λ (ts : List OpenText). Contains ts c.publication.new.text) (sym items)
-    (among (take c.in-Some.i c.remove-text.new.self.items)
-    (drop c.in-Some.i c.remove-text.new.self.items) c.publication.new.text) in
-    inl (c.publication.new.text, has, c.in_ok-message.ensures.told)
+    let kept : earlier_of c.edit.new.self ≡ kept_of first.text =
+    c.in_ok-edit.ensures.kept ∙ ap kept_of taken in
+    inl record {
+      i = c.in-Some.i;
+      first = first;
+      text = c.publication.new.text;
+      placed = items
+          ∙ ap (λ (ts : List OpenText). insert ts c.in-Some.i c.publication.new.text)
+          c.remove-text.ensures.items
+          ∙ put_back c.args.uri.now c.args.self.now.texts.items c.in-Some.i
+          c.publication.new.text first;
+      keeps = subst (λ (kept : Option (List ℕ)). earlier_of c.publication.new.text
+          ≡ (if c.publication.new.text.is_read then None else kept)) kept
+          c.in_ok-message.ensures.earlier;
+      told = c.in_ok-message.ensures.told;
+    }

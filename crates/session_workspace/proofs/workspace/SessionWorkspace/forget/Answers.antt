@@ -1,4 +1,4 @@
-use Rattle.std.proofs.Common.{◌≡◌, ◌∙◌, ap, sym, subst, List}
+use Rattle.std.proofs.Common.{◌∙◌, ap, sym, subst, List}
 use Rattle.session_workspace.specs.OpenTexts.{HaveNone, IsFirst, documents_of}
 use Rattle.session_workspace.specs.declared.open_text.OpenText.{OpenText}
 use Rattle.session_workspace.proofs.TextLemmas.{first_removed, without_none}

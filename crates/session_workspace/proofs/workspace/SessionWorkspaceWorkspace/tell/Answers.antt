@@ -1,6 +1,6 @@
 use Rattle.std.specs.Prelude.{Option}
 use Rattle.serde_json.specs.Data.{Data}
-use Rattle.session_workspace.specs.OpenTexts.{IsToldIfOpen, IsToldOf}
+use Rattle.session_workspace.specs.OpenTexts.{IsOpened, IsToldIfOpen}
 use Rattle.session_workspace.proofs.TextLemmas.{told_or_lost}
 use Rattle.session_workspace.proofs.workspace.SessionWorkspaceWorkspace.tell.Goals as goal
 
@@ -8,7 +8,8 @@ pub returns-in-Opened-clause-told : goal.returns-in-Opened-clause-told
 returns-in-Opened-clause-told g c =
     let told = c.open-done.ensures.told in
     rw c.in-Opened.is (told_or_lost c.answer.result c.open-done.result
-    (λ (m : Option Data). IsToldOf c.args.self.now.shown c.open-done.new.self.texts.items m)
+    (λ (m : Option Data). IsOpened c.args.self.now.shown c.in-Opened.uri.now
+    c.open-done.new.self.texts.items m)
     c.answer.ensures.done c.answer.ensures.lost (rw c.forget.ensures.shown at told))
 
 pub returns-in-Edited-clause-told : goal.returns-in-Edited-clause-told
