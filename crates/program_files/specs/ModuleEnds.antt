@@ -1,5 +1,5 @@
 -- Where the modules of a file end in its expansion. (Of this project.)
-use Rattle.std.specs.Prelude.{◌≡◌, ℕ, ◌+◌, true, Option, Some, None, option_map, map}
+use Rattle.std.specs.Prelude.{◌≡◌, ℕ, ◌+◌, true, Option, Some, None}
 use Rattle.std.specs.List.{slice_get}
 use Rattle.bridge.specs.PrintedRanges.{read_ranges}
 use Rattle.crate_walk.specs.WholeTexts.{has_semicolon}
