@@ -1,3 +1,6 @@
+pub mod NoteLemmas
 pub mod OpenLemmas
 pub mod RuleLemmas
+pub mod UnequalLemmas
+pub mod WalkLemmas
 pub mod Rows
