@@ -3,7 +3,7 @@ use Rattle.std.proofs.Common.{◌≡◌, refl, sym, ap, ◌∙◌, ℕ, suc, Lis
 use Rattle.std.proofs.Common.{Some, length, option_and_then}
 use Rattle.std.specs.declared.alloc.Global.{Global}
 use Rattle.std.specs.declared.vec.Vec.{Vec}
-use Rattle.mbe_matcher.specs.Bindings.{rounds, value_at}
+use Rattle.mbe_matcher.specs.Bindings.{value_at}
 use Rattle.mbe_matcher.specs.Bound.{standing_for, values_of}
 use Rattle.mbe_matcher.specs.declared.bindings.Binding.{Binding, Rounds}
 use Rattle.mbe_matcher.proofs.BoundLemmas.{standing-Rounds}

@@ -9,7 +9,7 @@ use Rattle.mbe_rules.specs.Text.{is_one_of}
 use Rattle.mbe_rules.specs.declared.macro_call_style.MacroCallStyle.{MacroCallStyle}
 use Rattle.mbe_rules.specs.declared.parser.RepeatKind.{RepeatKind}
 use Rattle.mbe_rules.specs.declared.parser.RepeatKind.TheVariants.{ZeroOrOne}
-use Rattle.mbe_matcher.specs.Bindings.{Binding, Map, binding_of, fragment, rounds, skipped}
+use Rattle.mbe_matcher.specs.Bindings.{Binding, Map, binding_of, rounds, skipped}
 use Rattle.mbe_matcher.specs.Grammar.{Grammar}
 use Rattle.mbe_matcher.specs.Paths.{has_clash}
 use Rattle.mbe_matcher.specs.Readings.{readings, takings}

@@ -35,6 +35,13 @@ fn is_ambiguous<'a, G: FragmentGrammar>(
     }
 }
 
+// Whether a rule has this style.
+fn has_style(rule: &Rule, style: MacroCallStyle) -> bool
+    ensures { result ≡ same_style style rule.now.style }
+{
+    rule.style == style
+}
+
 // Whether a rule has this style and is ambiguous for an argument.
 fn is_passed<'a, G: FragmentGrammar>(
     alloc: Global,
@@ -48,7 +55,7 @@ fn is_passed<'a, G: FragmentGrammar>(
     ensures { IfOk result (λ b. b ≡ (same_style style (rule_of rule.now).style
         && is_ambiguous (G.answer grammar.now) (forest argument.entry) (rule_of rule.now))) }
 {
-    if rule.style != style {
+    if !has_style(rule, style) {
         return Ok(false);
     }
     is_ambiguous(alloc, arena, grammar, rule, argument)
