@@ -1,4 +1,5 @@
 pub mod NoteLemmas
+pub mod NoteRows
 pub mod OpenLemmas
 pub mod RuleLemmas
 pub mod UnequalLemmas
