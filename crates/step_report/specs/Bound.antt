@@ -1,6 +1,6 @@
 -- What is told of the rule that a call goes by: what its metavariables stand for, and where rustc
 -- refuses the call. (Of this project.)
-use Rattle.std.specs.Prelude.{ℕ, ◌+◌, ◌-◌, ◌^◌, List, Option, Some, None, Result, Ok, Err}
+use Rattle.std.specs.Prelude.{ℕ, ◌+◌, ◌-◌, ◌^◌, Option, Some, None, Result, Ok, Err}
 use Rattle.std.specs.Prelude.{if◌then◌else◌, is_some, min, option_and_then, option_map}
 use Rattle.tt_data.specs.Forest.{Forest, empty, group, leaf}
 use Rattle.tt_data.specs.declared.edition.Edition.{Edition}

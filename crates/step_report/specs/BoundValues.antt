@@ -1,5 +1,5 @@
 -- JSON values that tell what metavariables stand for. (RFC 8259; of this project: the members.)
-use Rattle.std.specs.Prelude.{List, Option, Some, None, codes, map}
+use Rattle.std.specs.Prelude.{Option, Some, None, codes, map}
 use Rattle.tt_data.specs.Forest.{Forest}
 use Rattle.mbe_explain.specs.Words.{specifier}
 use Rattle.mbe_rules.specs.declared.parser.MetaVarKind.{MetaVarKind}

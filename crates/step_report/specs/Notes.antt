@@ -2,7 +2,7 @@
 -- project.)
 use Rattle.std.specs.Prelude.{ℕ, List, [], ◌∷◌, ◌++◌, Option, Some, None, chars, codes, decimal}
 use Rattle.std.specs.Prelude.{flat_map, map}
-use Rattle.rule_bindings.specs.Notes.{Notes, Unequal}
+use Rattle.rule_bindings.specs.Notes.{Counted, Notes, Unequal}
 use Rattle.step_report.specs.Bound.{told_number}
 use Rattle.step_report.specs.Layout.{indent}
 use Rattle.step_report.specs.Shown.{shown}
@@ -19,6 +19,13 @@ pub record Note : Type 0 where
 abbrev pub variable : List ℕ → List ℕ
 variable n = codes "`$" ++ (shown (chars n) ++ codes "`")
 
+-- a metavariable with its iterations
+abbrev pub counted : Counted → List ℕ
+counted c = decimal c.count ++ (codes " of " ++ variable c.name)
+
+abbrev pub both : Unequal → List ℕ
+both u = counted u.one ++ (codes " and " ++ counted u.other)
+
 -- a rule before that is ambiguous
 abbrev pub passed_note : ℕ → Note
 passed_note number = record {
@@ -32,9 +39,7 @@ passed_note number = record {
 -- a repetition whose metavariables have not as many iterations
 abbrev pub unequal_words : Unequal → List ℕ
 unequal_words u =
-    codes "a repetition has " ++ (decimal u.one.count ++ (codes " of " ++ (variable u.one.name
-    ++ (codes " and " ++ (decimal u.other.count ++ (codes " of " ++ (variable u.other.name
-    ++ codes ": the fewer count, and rustc refuses it")))))))
+    codes "a repetition has " ++ (both u ++ codes ": the fewer count, and rustc refuses it")
 
 abbrev pub unequal_note : Unequal → Note
 unequal_note u = record {

@@ -1,5 +1,5 @@
 -- What a note of the code is.
-use Rattle.std.specs.Prelude.{List, map, string_bytes}
+use Rattle.std.specs.Prelude.{map, string_bytes}
 use Rattle.step_report.specs.Notes as spec
 use Rattle.step_report.specs.declared.notes.Note.{Note}
 

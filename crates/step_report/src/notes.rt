@@ -1,17 +1,17 @@
 //! What is told of notes: where rustc refuses a call that a rule gives something for.
-ghost use Rattle.std.specs.Prelude.{◌≡◌, ◌∷◌, [], ◌++◌, IfOk, OnOk, flat_map, map, option_map};
-ghost use Rattle.std.specs.Prelude.{string_bytes};
-ghost use Rattle.rule_bindings.specs.Given.{notes_given, unequal_given};
-ghost use Rattle.step_report.specs.Notes.{note_line, note_lines, notes_of, passed_note};
-ghost use Rattle.step_report.specs.Notes.{passed_notes, unbound_note, unequal_note, unequal_notes};
-ghost use Rattle.step_report.specs.Notes.{unequal_words, variable};
+ghost use Rattle.std.specs.Prelude.{◌≡◌, ◌∷◌, [], ◌++◌, IfOk, OnOk, codes, flat_map, map};
+ghost use Rattle.std.specs.Prelude.{option_map};
+ghost use Rattle.rule_bindings.specs.Given.{counted_given, notes_given, unequal_given};
+ghost use Rattle.step_report.specs.Notes.{both, counted, note_line, note_lines, notes_of};
+ghost use Rattle.step_report.specs.Notes.{passed_note, passed_notes, unbound_note, unequal_note};
+ghost use Rattle.step_report.specs.Notes.{unequal_notes, unequal_words, variable};
 ghost use Rattle.step_report.specs.NotesGiven.{note_given};
 ghost use Rattle.step_report.specs.Shown.{Adds};
 
 use crate::bound::told_number;
 use crate::layout::push_indent;
 use crate::shown::push_shown;
-use rule_bindings::{Notes, Unequal};
+use rule_bindings::{Counted, Notes, Unequal};
 use std::alloc::{AllocError, Global};
 use symbols::Symbol;
 
@@ -53,7 +53,32 @@ fn passed_note<'a>(alloc: Global, number: usize) -> Result<Note<'a>, AllocError>
     })
 }
 
-// Adds how many iterations two metavariables have.
+// Adds a metavariable with its iterations.
+fn push_count(alloc: Global, out: &mut String, it: Counted<'_>) -> Result<(), AllocError>
+    ensures { Adds result out.old out.new (counted (counted_given it.entry)) }
+{
+    let count = it.count;
+    write!(out, "{count} of ")?;
+    push_variable(alloc, out, it.name)
+}
+
+// Adds two metavariables with their iterations.
+fn push_both(alloc: Global, out: &mut String, it: Unequal<'_>) -> Result<(), AllocError>
+    ensures { Adds result out.old out.new (both (unequal_given it.entry)) }
+{
+    push_count(alloc, out, it.one)?;
+    out.push_str(" and ")?;
+    push_count(alloc, out, it.other)
+}
+
+// Adds what comes of that.
+fn push_refusal(out: &mut String) -> Result<(), AllocError>
+    ensures { Adds result out.old out.new (codes ": the fewer count, and rustc refuses it") }
+{
+    out.push_str(": the fewer count, and rustc refuses it")
+}
+
+// Adds how many iterations two metavariables of a repetition have.
 fn push_unequal(
     alloc: Global,
     out: &mut String,
@@ -61,13 +86,9 @@ fn push_unequal(
 ) -> Result<(), AllocError>
     ensures { Adds result out.old out.new (unequal_words (unequal_given unequal.entry)) }
 {
-    let count = unequal.one.count;
-    write!(out, "a repetition has {count} of ")?;
-    push_variable(alloc, out, unequal.one.name)?;
-    let count = unequal.other.count;
-    write!(out, " and {count} of ")?;
-    push_variable(alloc, out, unequal.other.name)?;
-    out.push_str(": the fewer count, and rustc refuses it")
+    out.push_str("a repetition has ")?;
+    push_both(alloc, out, unequal)?;
+    push_refusal(out)
 }
 
 // The note of a repetition whose metavariables have not as many iterations.

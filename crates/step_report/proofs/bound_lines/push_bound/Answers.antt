@@ -18,7 +18,7 @@ returns-in-Some g c =
     let all = told-rule t gr c.args.context.now.edition a (rules_of c.in_ok-known.known.rules)
     c.as_ref.result.now.tree.inner (Some (rule_given c.in-Some.bound))
     c.in_ok-known.ensures (ap (λ (k : MacroDef). k.tree.inner) c.as_ref.ensures)
-    (sym (ap (option_map rule_given) c.in-Some.is) ∙ c.in_ok-bound_in.ensures) in
+    (sym (ap (option_map rule_given) c.in-Some.is) ∙ c.in_ok-bound.ensures) in
     subst (λ (bytes : List ℕ). Adds c.push_rule.result c.args.out.now c.push_rule.new.out bytes)
     (ap (bound_lines t c.args.level) all)
     c.push_rule.ensures
@@ -31,6 +31,6 @@ returns g c =
     let none = told-rule t gr c.args.context.now.edition a (rules_of c.in_ok-known.known.rules)
     c.as_ref.result.now.tree.inner None c.in_ok-known.ensures
     (ap (λ (k : MacroDef). k.tree.inner) c.as_ref.ensures)
-    (sym (ap (option_map rule_given) c.in-None.is) ∙ c.in_ok-bound_in.ensures) in
+    (sym (ap (option_map rule_given) c.in-None.is) ∙ c.in_ok-bound.ensures) in
     sym (append-nil (string_bytes c.args.out.now))
     ∙ ap (λ o. string_bytes c.args.out.now ++ bound_lines t c.args.level o) none
