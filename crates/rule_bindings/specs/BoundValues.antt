@@ -1,13 +1,9 @@
 -- What metavariables stand for in a call, iteration by iteration. (Of this project.)
-use Rattle.std.specs.Prelude.{ℕ, suc, List, [], ◌∷◌, ◌++◌, flat_map, slice_get}
-use Rattle.std.specs.Prelude.{Option, Some, None, option_and_then, option_map}
+use Rattle.std.specs.Prelude.{ℕ, suc, List, [], ◌∷◌, ◌++◌, flat_map, Option, Some, None}
 use Rattle.tt_data.specs.Forest.{Forest}
-use Rattle.mbe_rules.specs.Items.{Rule}
 use Rattle.mbe_rules.specs.declared.parser.MetaVarKind.{MetaVarKind}
-use Rattle.mbe_matcher.specs.Bindings.{Binding, Map, Values, bindings, fragment, no_more}
+use Rattle.mbe_matcher.specs.Bindings.{Binding, Map, Values, fragment, no_more}
 use Rattle.mbe_matcher.specs.Bindings.{rounds, skipped, value}
-use Rattle.mbe_matcher.specs.Grammar.{Grammar}
-use Rattle.mbe_matcher.specs.Readings.{the_reading}
 
 -- what a name stands for in one iteration: the numbers, from 0, of the iterations that it is in,
 -- from the outermost, and a fragment with its kind; none if its repetition has no iteration here
@@ -38,13 +34,3 @@ abbrev mutual
 -- what the names of a map stand for, name after name
 abbrev pub map_values : Map → List BoundValue
 map_values m = flat_map (λ e. values_in e.0 [] e.1) m
-
--- what the names of a rule's matcher stand for in an argument, if the matcher matches it
-abbrev pub rule_values : Grammar → Forest → Rule → Option (List BoundValue)
-rule_values gr argument rule =
-    option_map (λ ms. map_values (bindings ms)) (the_reading gr rule.pattern argument)
-
--- that by the rule of this number, from 0, if there is one
-abbrev pub values_by : Grammar → Forest → ℕ → List Rule → Option (List BoundValue)
-values_by gr argument number list =
-    option_and_then (rule_values gr argument) (slice_get list number)

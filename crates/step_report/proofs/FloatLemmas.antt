@@ -1,7 +1,7 @@
 -- No number in a line is a float, so its text is known.
 use Rattle.std.proofs.Common.{◌≡◌, ℕ, Bool, true, false, List, [], ◌∷◌, refl, map}
 use Rattle.std.specs.Prelude.{Option, Some, None, Result, Ok, Err, if◌then◌else◌, nat_eq}
-use Rattle.serde_json.specs.Data.{Data}
+use Rattle.serde_json.specs.Data.{Data, string}
 use Rattle.serde_json.specs.View.{items_of}
 use Rattle.serde_json.specs.Written.{has_float, items_have_float}
 use Rattle.tt_data.specs.Forest.{Forest}
@@ -13,10 +13,13 @@ use Rattle.expander_model.specs.Definitions.{Definition, definition_of}
 use Rattle.expander_model.specs.declared.fault.FaultKind.{FaultKind}
 use Rattle.expander_trace.specs.Steps.{Attempt, Step}
 use Rattle.mbe_rules.specs.declared.parser.MetaVarKind.{MetaVarKind}
+use Rattle.rule_bindings.specs.BoundRules.{BoundRule}
 use Rattle.rule_bindings.specs.BoundValues.{BoundValue}
 use Rattle.step_report.specs.Places.{other_name}
-use Rattle.step_report.specs.Bound.{Context, attempt_values, told_number}
+use Rattle.step_report.specs.Bound.{Context, attempt_bound, told_number}
 use Rattle.step_report.specs.BoundValues.{binding, bindings, bindings_if, kind_if, tokens_if}
+use Rattle.step_report.specs.NoteValues.{note, notes, notes_if, number_if}
+use Rattle.step_report.specs.Notes.{Note, notes_of}
 use Rattle.step_report.specs.Texts.{Named}
 use Rattle.step_report.specs.Tokens.{printed, span_numbers}
 use Rattle.step_report.specs.Values.{at, call, call_trees, count_if, macro_if, macro_of, name_if}
@@ -101,17 +104,41 @@ no_float_each : (vs : List BoundValue) → items_have_float (items_of (map bindi
 no_float_each [] = refl
 no_float_each (v ∷ vs) = rw (no_float_binding v, no_float_each vs) refl
 
-no_float_bindings : (o : Option (List BoundValue)) → has_float (bindings o) ≡ false
+no_float_bindings : (o : Option BoundRule) → has_float (bindings o) ≡ false
 no_float_bindings None = refl
-no_float_bindings (Some vs) = no_float_each vs
+no_float_bindings (Some b) = no_float_each b.values
+
+no_float_strings : (ns : List (List ℕ)) → items_have_float (items_of (map string ns)) ≡ false
+no_float_strings [] = refl
+no_float_strings (n ∷ ns) = no_float_strings ns
+
+no_float_number_if : (n : Option ℕ) → has_float (number_if n) ≡ false
+no_float_number_if None = refl
+no_float_number_if (Some n) = refl
+
+no_float_note : (n : Note) → has_float (note n) ≡ false
+no_float_note n = rw (no_float_strings n.names, no_float_number_if n.rule) refl
+
+no_float_list : (ns : List Note) → items_have_float (items_of (map note ns)) ≡ false
+no_float_list [] = refl
+no_float_list (n ∷ ns) = rw (no_float_note n, no_float_list ns) refl
+
+no_float_notes : (o : Option BoundRule) → has_float (notes o) ≡ false
+no_float_notes None = refl
+no_float_notes (Some b) = no_float_list (notes_of b.notes)
+
+no_float_told : (c : Context) (a : Option (Attempt Forest)) → has_float (notes_if c a) ≡ false
+no_float_told c None = refl
+no_float_told c (Some a) = no_float_notes (attempt_bound c a)
 
 no_float_bound : (c : Context) (a : Option (Attempt Forest)) → has_float (bindings_if c a) ≡ false
 no_float_bound c None = refl
-no_float_bound c (Some a) = no_float_bindings (attempt_values c a)
+no_float_bound c (Some a) = no_float_bindings (attempt_bound c a)
 
 no_float_in_outcome : (c : Context) (a : Option (Attempt Forest)) → has_float (outcome c a) ≡ false
 no_float_in_outcome c a =
-    rw (no_float_bound c a, no_float_macro c.texts a, no_float_result a, no_float_rule a, no_float_stays a) refl
+    rw (no_float_bound c a, no_float_macro c.texts a, no_float_told c a, no_float_result a,
+    no_float_rule a, no_float_stays a) refl
 
 pub step_has_no_float : (c : Context) (index : ℕ) (parent : Option ℕ) (s : Step Forest)
     → has_float (step c index parent s) ≡ false

@@ -1,4 +1,4 @@
--- Lines that tell what metavariables stand for. (Of this project.)
+-- Lines that tell of the rule that a call goes by. (Of this project.)
 use Rattle.std.specs.Prelude.{ℕ, List, [], ◌∷◌, ◌++◌, Option, Some, None, chars, codes, decimal}
 use Rattle.std.specs.Prelude.{flat_map, option_and_then}
 use Rattle.tt.specs.Elements.{first_place}
@@ -6,9 +6,11 @@ use Rattle.tt_data.specs.Forest.{Forest}
 use Rattle.tt_data.specs.declared.span.Span.{Span}
 use Rattle.mbe_explain.specs.Words.{specifier}
 use Rattle.mbe_rules.specs.declared.parser.MetaVarKind.{MetaVarKind}
+use Rattle.rule_bindings.specs.BoundRules.{BoundRule}
 use Rattle.rule_bindings.specs.BoundValues.{BoundValue}
 use Rattle.step_report.specs.Bound.{told_number}
 use Rattle.step_report.specs.Layout.{beside, indent}
+use Rattle.step_report.specs.Notes.{note_lines}
 use Rattle.step_report.specs.Places.{place}
 use Rattle.step_report.specs.Shown.{shown, shown_trees}
 use Rattle.step_report.specs.Texts.{Named}
@@ -54,7 +56,10 @@ located t left (Some s) = beside left (place t s)
 abbrev pub value_line : Named → ℕ → BoundValue → List ℕ
 value_line t level v = located t (value_left level v) (first_span v.fragment)
 
--- the lines of what all do
-abbrev pub values_lines : Named → ℕ → Option (List BoundValue) → List ℕ
-values_lines t level None = []
-values_lines t level (Some vs) = flat_map (value_line t level) vs
+-- the lines of what is told of a rule: what all do, and the notes
+abbrev pub rule_lines : Named → ℕ → BoundRule → List ℕ
+rule_lines t level b = flat_map (value_line t level) b.values ++ note_lines level b.notes
+
+abbrev pub bound_lines : Named → ℕ → Option BoundRule → List ℕ
+bound_lines t level None = []
+bound_lines t level (Some b) = rule_lines t level b

@@ -11,8 +11,8 @@ use Rattle.expander_trace.specs.Steps.{Attempt, Step}
 use Rattle.expander_trace.specs.declared.limits.Cut.{Cut}
 use Rattle.expander_trace.specs.declared.limits.Cut.TheVariants as cuts
 use Rattle.step_report.specs.Asked.{asked_steps, ends_asked, is_cut_told}
-use Rattle.step_report.specs.Bound.{Context, attempt_values}
-use Rattle.step_report.specs.BoundLines.{values_lines}
+use Rattle.step_report.specs.Bound.{Context, attempt_bound}
+use Rattle.step_report.specs.BoundLines.{bound_lines}
 use Rattle.step_report.specs.Layout.{beside, head, indent}
 use Rattle.step_report.specs.Places.{name_in, place}
 use Rattle.step_report.specs.Shown.{shown, shown_trees}
@@ -46,11 +46,12 @@ result_line level (Ok given) =
     codes "     " ++ (indent level ++ (codes "= " ++ (shown_trees given.1 ++ (10 ∷ []))))
 result_line level (Err kind) = []
 
--- the lines of a call of a definition: the call, what metavariables stand for, what the call gives
+-- the lines of a call of a definition: the call, what metavariables stand for, the notes, what the
+-- call gives
 abbrev pub attempt_lines : Context → ℕ → Attempt Forest → List ℕ
 attempt_lines c level a =
     beside (head level ++ shown_trees a.call) (given_words c.texts a.definition a.given)
-    ++ (values_lines c.texts level (attempt_values c a) ++ result_line level a.given)
+    ++ (bound_lines c.texts level (attempt_bound c a) ++ result_line level a.given)
 
 -- the line of a call whose name finds nothing
 abbrev pub unknown_line : ℕ → List ℕ → List ℕ

@@ -13,6 +13,7 @@ use Rattle.expander_trace.specs.Steps.{Attempt, Step}
 use Rattle.step_report.specs.Bound.{Context}
 use Rattle.step_report.specs.BoundValues.{bindings_if}
 use Rattle.step_report.specs.Lines.{stay_words, why_unknown}
+use Rattle.step_report.specs.NoteValues.{notes_if}
 use Rattle.step_report.specs.Places.{other_name}
 use Rattle.step_report.specs.Texts.{Named}
 use Rattle.step_report.specs.Tokens.{trees}
@@ -97,15 +98,16 @@ call t s =
     (member (codes "name") (string s.key)
     (member (codes "tokens") (call_trees s.attempt) no_members))))
 
--- what comes of it: the definition, the rule, what its metavariables stand for and what it gives,
--- or why the call stays
+-- what comes of it: the definition, the rule, what its metavariables stand for, the notes and what
+-- it gives, or why the call stays
 abbrev pub outcome : Context → Option (Attempt Forest) → Data
 outcome c a =
     object (member (codes "bindings") (bindings_if c a)
     (member (codes "macro") (macro_if c.texts a)
+    (member (codes "notes") (notes_if c a)
     (member (codes "result") (result_if a)
     (member (codes "rule") (rule_if a)
-    (member (codes "stays") (stays_if a) no_members)))))
+    (member (codes "stays") (stays_if a) no_members))))))
 
 -- a number, if there is one
 abbrev pub count_if : Option ℕ → Data

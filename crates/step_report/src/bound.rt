@@ -1,10 +1,10 @@
-//! What the metavariables of the rule stand for that a call goes by.
+//! What is told of the rule that a call goes by.
 ghost use Rattle.std.specs.Prelude.{◌≡◌, IfOk, Some, option_map};
 ghost use Rattle.tt.specs.Views.{forest};
 ghost use Rattle.mbe.specs.Macros.{rules_of};
 ghost use Rattle.mbe_explain.specs.Words.{specifier};
 ghost use Rattle.expander_trace.specs.Given.{given_in};
-ghost use Rattle.rule_bindings.specs.Given.{all_given};
+ghost use Rattle.rule_bindings.specs.Given.{rule_given};
 ghost use Rattle.step_report.specs.Bound.{argument_in, bound_by, bound_in, piece_rules};
 ghost use Rattle.step_report.specs.Bound.{told_number};
 
@@ -13,7 +13,7 @@ use expander_scope::macro_def::MacroDef;
 use expander_trace::step::Attempt;
 use mbe::{DeclarativeMacro, FragmentGrammar};
 use mbe_rules::MetaVarKind;
-use rule_bindings::{BoundValue, bindings_by};
+use rule_bindings::{BoundRule, bindings_by};
 use std::alloc::{AllocError, Global};
 use tt::{TokenTreesView, TopSubtree, TtElement};
 use tt_data::{Edition, Span};
@@ -79,8 +79,7 @@ fn argument(call: &TopSubtree) -> Option<TokenTreesView<'_>>
     None
 }
 
-// What the metavariables of the rule with this number stand for, unless the definition has a
-// fault.
+// What is told of the rule with this number, unless the definition has a fault.
 fn bound_by<'a, G: FragmentGrammar>(
     alloc: Global,
     arena: &'a Bump,
@@ -88,8 +87,8 @@ fn bound_by<'a, G: FragmentGrammar>(
     rules: &'a DeclarativeMacro,
     number: u32,
     argument: TokenTreesView<'a>,
-) -> Result<Option<Vec<BoundValue<'a>>>, AllocError>
-    ensures { IfOk result (λ o. option_map (λ vs. all_given vs.items) o
+) -> Result<Option<BoundRule<'a>>, AllocError>
+    ensures { IfOk result (λ o. option_map rule_given o
         ≡ bound_by (G.answer grammar.now) (rules_of rules.now) number (forest argument.entry)) }
 {
     if rules.err().is_some() {
@@ -98,16 +97,16 @@ fn bound_by<'a, G: FragmentGrammar>(
     bindings_by(alloc, arena, grammar, rules, number as usize, argument)
 }
 
-/// What the metavariables of the rule stand for that gives something for a call, by the rules of
-/// the call's definition. `None` if none does.
+/// What is told of the rule that gives something for a call, by the rules of the call's
+/// definition. `None` if none does.
 pub(crate) fn bound_in<'a, G: FragmentGrammar>(
     alloc: Global,
     arena: &'a Bump,
     grammar: &G,
     rules: &'a DeclarativeMacro,
     attempt: &'a Attempt,
-) -> Result<Option<Vec<BoundValue<'a>>>, AllocError>
-    ensures { IfOk result (λ o. option_map (λ vs. all_given vs.items) o
+) -> Result<Option<BoundRule<'a>>, AllocError>
+    ensures { IfOk result (λ o. option_map rule_given o
         ≡ bound_in (G.answer grammar.now) (rules_of rules.now) attempt.now.call.inner
         (given_in attempt.now.given)) }
 {

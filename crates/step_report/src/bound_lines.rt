@@ -1,24 +1,25 @@
-//! Lines that tell what metavariables stand for.
+//! Lines that tell of the rule that a call goes by.
 ghost use Rattle.std.specs.Prelude.{◌≡◌, flat_map, option_map};
 ghost use Rattle.expander_trace.specs.Given.{attempt_in};
-ghost use Rattle.rule_bindings.specs.Given.{all_given, fragment_given, value_given};
-ghost use Rattle.step_report.specs.Bound.{attempt_values, context_by};
+ghost use Rattle.rule_bindings.specs.Given.{all_given, fragment_given, rule_given, value_given};
+ghost use Rattle.step_report.specs.Bound.{attempt_bound, context_by};
 ghost use Rattle.step_report.specs.BoundLines.{dotted, first_span, fragment_words};
 ghost use Rattle.step_report.specs.BoundLines.{iteration_words, kind_words, label, located};
-ghost use Rattle.step_report.specs.BoundLines.{value_left, value_line, values_lines};
+ghost use Rattle.step_report.specs.BoundLines.{bound_lines, rule_lines, value_left, value_line};
 ghost use Rattle.step_report.specs.Shown.{Adds};
 ghost use Rattle.step_report.specs.Texts.{texts_in};
 
 use crate::bound::{USUAL_ROOM, bound_in, rules_again, specifier, told_number};
 use crate::context::Context;
 use crate::layout::{push_beside, push_indent};
+use crate::notes::push_notes;
 use crate::places::push_place;
 use crate::shown::{push_shown, push_trees};
 use crate::texts::Texts;
 use bumpalo::Bump;
 use expander_trace::step::Attempt;
 use mbe::FragmentGrammar;
-use rule_bindings::{BoundFragment, BoundValue};
+use rule_bindings::{BoundFragment, BoundRule, BoundValue};
 use std::alloc::{AllocError, Global};
 use tt_data::Span;
 
@@ -163,7 +164,22 @@ fn push_values(
     Ok(())
 }
 
-/// Adds a line for each value that the rule binds that gives something for a call.
+// Adds a line for each value that a rule binds, and the notes.
+fn push_rule(
+    alloc: Global,
+    out: &mut String,
+    texts: &Texts<'_>,
+    level: u8,
+    bound: &BoundRule<'_>,
+) -> Result<(), AllocError>
+    ensures { Adds result out.old out.new
+        (rule_lines (texts_in texts.now) level (rule_given bound.now)) }
+{
+    push_values(alloc, out, texts, level, &bound.values)?;
+    push_notes(alloc, out, level, &bound.notes)
+}
+
+/// Adds a line for each value that the rule binds that gives something for a call, and the notes.
 pub(crate) fn push_bound<G: FragmentGrammar>(
     alloc: Global,
     out: &mut String,
@@ -171,14 +187,14 @@ pub(crate) fn push_bound<G: FragmentGrammar>(
     level: u8,
     attempt: &Attempt,
 ) -> Result<(), AllocError>
-    ensures { Adds result out.old out.new (values_lines (texts_in context.now.texts.now) level
-        (attempt_values (context_by (texts_in context.now.texts.now)
+    ensures { Adds result out.old out.new (bound_lines (texts_in context.now.texts.now) level
+        (attempt_bound (context_by (texts_in context.now.texts.now)
         (G.answer context.now.grammar.now) context.now.edition) (attempt_in attempt.now))) }
 {
     let arena = Bump::try_with_capacity(alloc, USUAL_ROOM)?;
     let known = rules_again(alloc, context.edition, attempt.known.as_ref())?;
     match bound_in(alloc, &arena, context.grammar, &known.rules, attempt)? {
-        Some(values) => push_values(alloc, out, context.texts, level, &values),
+        Some(bound) => push_rule(alloc, out, context.texts, level, &bound),
         None => Ok(()),
     }
 }

@@ -1,22 +1,24 @@
-//! JSON values that tell what metavariables stand for.
+//! JSON values that tell of the rule that a call goes by.
 ghost use Rattle.std.specs.Prelude.{◌≡◌, ◌++◌, ◌∷◌, [], IfOk, OnOk, map, option_map};
 ghost use Rattle.serde_json.specs.Data.{array};
 ghost use Rattle.serde_json.specs.View.{items_of, view};
 ghost use Rattle.call_json.specs.Places.{count, numbers};
 ghost use Rattle.expander_trace.specs.Given.{attempt_in};
-ghost use Rattle.rule_bindings.specs.Given.{all_given, fragment_given, value_given};
-ghost use Rattle.step_report.specs.Bound.{attempt_values, context_by, told_number};
-ghost use Rattle.step_report.specs.BoundValues.{binding, bindings, bindings_if, kind_if};
-ghost use Rattle.step_report.specs.BoundValues.{tokens_if};
+ghost use Rattle.rule_bindings.specs.Given.{all_given, fragment_given, rule_given, value_given};
+ghost use Rattle.step_report.specs.Bound.{attempt_bound, context_by, told_number};
+ghost use Rattle.step_report.specs.BoundValues.{binding, bindings_if, kind_if, tokens_if};
+ghost use Rattle.step_report.specs.BoundValues.{bindings as bindings_of};
+ghost use Rattle.step_report.specs.NoteValues.{notes, notes_if};
 ghost use Rattle.step_report.specs.Texts.{texts_in};
 
 use crate::bound::{USUAL_ROOM, bound_in, rules_again, specifier, told_number};
 use crate::context::Context;
+use crate::note_values::notes;
 use crate::tokens::trees;
 use bumpalo::Bump;
 use expander_trace::step::Attempt;
 use mbe::FragmentGrammar;
-use rule_bindings::{BoundFragment, BoundValue};
+use rule_bindings::{BoundFragment, BoundRule, BoundValue};
 use serde_json::{Number, Value, json};
 use std::alloc::{AllocError, Global};
 
@@ -88,49 +90,74 @@ fn bindings(alloc: Global, values: &[BoundValue<'_>]) -> Result<Value, AllocErro
     Ok(Value::Array(list))
 }
 
-// That, or null if no rule gives something.
-fn bindings_or_null(
-    alloc: Global,
-    values: &Option<Vec<BoundValue<'_>>>,
-) -> Result<Value, AllocError>
-    ensures { IfOk result (λ v. view v
-        ≡ bindings (option_map (λ vs. all_given vs.items) values.now)) }
-{
-    match values {
-        Some(values) => bindings(alloc, values),
-        None => Ok(Value::Null),
-    }
+/// What is told of the rule that gives something for a call; null for each if none does.
+#[derive(Drop)]
+pub(crate) struct RuleValues {
+    /// What its metavariables stand for.
+    pub(crate) bindings: Value,
+    /// The notes.
+    pub(crate) notes: Value,
 }
 
-// What the metavariables of the rule stand for that gives something for a call, if one does.
-fn bindings_in<G: FragmentGrammar>(
+// What is told of a rule, if there is one.
+fn values_of(
+    alloc: Global,
+    bound: &Option<BoundRule<'_>>,
+) -> Result<RuleValues, AllocError>
+    ensures bindings { IfOk result (λ v. view v.bindings
+        ≡ bindings_of (option_map rule_given bound.now)) }
+    ensures notes { IfOk result (λ v. view v.notes ≡ notes (option_map rule_given bound.now)) }
+{
+    let Some(bound) = bound else {
+        return Ok(RuleValues {
+            bindings: Value::Null,
+            notes: Value::Null,
+        });
+    };
+    let bindings = bindings(alloc, &bound.values)?;
+    let notes = notes(alloc, &bound.notes)?;
+    Ok(RuleValues { bindings, notes })
+}
+
+// What is told of the rule that gives something for a call of a definition.
+fn values_in<G: FragmentGrammar>(
     alloc: Global,
     context: &Context<'_, G>,
     attempt: &Attempt,
-) -> Result<Value, AllocError>
-    ensures { IfOk result (λ v. view v ≡ bindings (attempt_values
+) -> Result<RuleValues, AllocError>
+    ensures bindings { IfOk result (λ v. view v.bindings ≡ bindings_of (attempt_bound
+        (context_by (texts_in context.now.texts.now) (G.answer context.now.grammar.now)
+        context.now.edition) (attempt_in attempt.now))) }
+    ensures notes { IfOk result (λ v. view v.notes ≡ notes (attempt_bound
         (context_by (texts_in context.now.texts.now) (G.answer context.now.grammar.now)
         context.now.edition) (attempt_in attempt.now))) }
 {
     let arena = Bump::try_with_capacity(alloc, USUAL_ROOM)?;
     let known = rules_again(alloc, context.edition, attempt.known.as_ref())?;
-    let values = bound_in(alloc, &arena, context.grammar, &known.rules, attempt)?;
-    bindings_or_null(alloc, &values)
+    let bound = bound_in(alloc, &arena, context.grammar, &known.rules, attempt)?;
+    values_of(alloc, &bound)
 }
 
-/// What the metavariables of the rule stand for that gives something for a call, if the call has a
-/// definition.
-pub(crate) fn bindings_if<G: FragmentGrammar>(
+/// What is told of the rule that gives something for a call, if the call has a definition.
+pub(crate) fn values_if<G: FragmentGrammar>(
     alloc: Global,
     context: &Context<'_, G>,
     attempt: &Option<Attempt>,
-) -> Result<Value, AllocError>
-    ensures { IfOk result (λ v. view v ≡ bindings_if (context_by (texts_in context.now.texts.now)
+) -> Result<RuleValues, AllocError>
+    ensures bindings { IfOk result (λ v. view v.bindings
+        ≡ bindings_if (context_by (texts_in context.now.texts.now)
+        (G.answer context.now.grammar.now) context.now.edition)
+        (option_map attempt_in attempt.now)) }
+    ensures notes { IfOk result (λ v. view v.notes
+        ≡ notes_if (context_by (texts_in context.now.texts.now)
         (G.answer context.now.grammar.now) context.now.edition)
         (option_map attempt_in attempt.now)) }
 {
     match attempt {
-        Some(attempt) => bindings_in(alloc, context, attempt),
-        None => Ok(Value::Null),
+        Some(attempt) => values_in(alloc, context, attempt),
+        None => Ok(RuleValues {
+            bindings: Value::Null,
+            notes: Value::Null,
+        }),
     }
 }

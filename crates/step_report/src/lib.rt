@@ -11,6 +11,8 @@ mod faults;
 mod json;
 mod layout;
 mod lines;
+mod note_values;
+mod notes;
 mod places;
 mod positions;
 mod shown;

@@ -9,7 +9,7 @@ ghost use Rattle.step_report.specs.Values.{macro_of, outcome, result_if, rule_if
 ghost use Rattle.step_report.specs.Values.{stays_if, step};
 ghost use Rattle.step_report.specs.Texts.{texts_in};
 
-use crate::bound_values::bindings_if;
+use crate::bound_values::values_if;
 use crate::context::Context;
 use crate::lines::{stay_words, why_unknown};
 use crate::places::other_name;
@@ -161,8 +161,8 @@ fn call(alloc: Global, texts: &Texts<'_>, it: &Step) -> Result<Value, AllocError
     })
 }
 
-// What comes of a call: the definition, the rule, what its metavariables stand for and what it
-// gives, or why the call stays.
+// What comes of a call: the definition, the rule, what its metavariables stand for, the notes and
+// what it gives, or why the call stays.
 fn outcome<G: FragmentGrammar>(
     alloc: Global,
     context: &Context<'_, G>,
@@ -173,14 +173,15 @@ fn outcome<G: FragmentGrammar>(
         (G.answer context.now.grammar.now) context.now.edition)
         (option_map attempt_in attempt.now)) }
 {
-    let bindings = bindings_if(alloc, context, attempt)?;
+    let told = values_if(alloc, context, attempt)?;
     let known = macro_if(alloc, context.texts, attempt)?;
     let result = result_if(alloc, attempt)?;
     let rule = rule_if(alloc, attempt)?;
     let stays = stays_if(alloc, attempt)?;
     json!(in alloc; {
-        "bindings": bindings,
+        "bindings": told.bindings,
         "macro": known,
+        "notes": told.notes,
         "result": result,
         "rule": rule,
         "stays": stays

@@ -6,11 +6,18 @@ use Rattle.mbe_rules.specs.Items.{has_empty_round}
 use Rattle.mbe_rules.specs.Ops.{rule_of}
 use Rattle.mbe.specs.Macros.{rules_of}
 use Rattle.mbe.proofs.FirstFitLemmas.{none-at}
-use Rattle.rule_bindings.proofs.RuleLemmas.{found-rule, no-rule}
+use Rattle.rule_bindings.proofs.RuleLemmas.{found-rule, no-rule, none-in-front}
 use Rattle.rule_bindings.proofs.rule.bindings_by.Goals as goal
 
-pub rule_values-requires : goal.rule_values-requires
-rule_values-requires g c =
+pub first_ambiguous-requires : goal.first_ambiguous-requires
+first_ambiguous-requires g c =
+    none-in-front (λ r. has_empty_round r.pattern) rule_of c.args.number c.rules-rules.result.now
+    c.split_at.result.0.now c.split_at.ensures.front
+    (subst (λ list. list_any (λ r. has_empty_round r.pattern) list ≡ false)
+    (sym c.rules-rules.ensures.rules) (c.rules-rules.ensures.ends c.requires))
+
+pub bound_rule-requires : goal.bound_rule-requires
+bound_rule-requires g c =
     let rules = c.rules-rules.result.now in
     let inside : c.args.number < length rules = omega arith in
     none-at (λ r. has_empty_round r.pattern) rule_of rules c.args.number c.index-rules-number.result
@@ -29,9 +36,10 @@ pub returns : goal.returns
 returns g c =
     let rules = c.rules-rules.result.now in
     let inside : c.args.number < length rules = omega arith in
-    IfOk-weaker c.rule_values.result _ _
+    IfOk-weaker c.bound_rule.result _ _
     (λ o bound. bound ∙ found-rule (g.G.FragmentGrammar.answer c.args.grammar.now)
     (forest c.args.argument) rules (rules_of c.args.definition.now).list
     c.rules-rules.ensures.rules c.args.number c.index-rules-number.result inside
-    c.index-rules-number.is)
-    c.rule_values.ensures
+    c.index-rules-number.is c.split_at.result.0.now c.split_at.ensures.front
+    c.in_ok-passed_over.passed_over c.in_ok-passed_over.ensures)
+    c.bound_rule.ensures
