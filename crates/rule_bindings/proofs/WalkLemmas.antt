@@ -77,8 +77,12 @@ module _ (m : Map) (ns : List ℕ) (op : Op) (ops : Bor (List Op)) (v : Vec Op G
       → new ≡ ts ++ (items_task ops ∷ [])
       → weight_of_all new < weight_of_all ts + work_of (put_op op done)
   group-lighter d is ts new e =
-      omega (arith, ap weight_of_all e, one-more ts (items_task ops),
-      sub-work v d op ops.now is same)
+      omega (
+        arith,
+        ap weight_of_all e,
+        one-more ts (items_task ops),
+        sub-work v d op ops.now is same,
+      )
 
   -- a repetition is an op
   pub repetition-first : (sep : Option Separator) (k : RepeatKind) → op ≡ Repeat v sep k
@@ -98,23 +102,28 @@ module _ (m : Map) (ns : List ℕ) (op : Op) (ops : Bor (List Op)) (v : Vec Op G
 
 module _ (m : Map) (ns : List ℕ) (first : Op) (ops : List Op) (rest : Bor (List Op))
     (is : ops ≡ first ∷ rest.now) (ts new : List Task) (e : new ≡ ts ++ (items_task rest ∷ []))
-    where
-  -- it is entered, and the others are planned
-  pub in-first : option_or (unequal_in m ns (put_op first done)) (left_in m (reverse new) ns)
-      ≡ option_or (unequal_in m ns (items_of ops)) (left_in m (reverse ts) ns)
-  in-first =
-      let all = left_in m (reverse ts) ns in
-      let here = unequal_in m ns (put_op first done) in
-      ap (λ l. option_or here (left_in m l ns)) (ap reverse e ∙ on-top ts (items_task rest))
-      ∙ sym (or-assoc here (unequal_in m ns (items_of rest.now)) all)
-      ∙ ap (λ u. option_or u all) (sym (ap (λ xs. unequal_in m ns (items_of xs)) is
-      ∙ unequal-put m ns first (items_of rest.now)))
+  where
+    -- it is entered, and the others are planned
+    pub in-first : option_or (unequal_in m ns (put_op first done)) (left_in m (reverse new) ns)
+        ≡ option_or (unequal_in m ns (items_of ops)) (left_in m (reverse ts) ns)
+    in-first =
+        let all = left_in m (reverse ts) ns in
+        let here = unequal_in m ns (put_op first done) in
+        ap (λ l. option_or here (left_in m l ns)) (ap reverse e ∙ on-top ts (items_task rest))
+        ∙ sym (or-assoc here (unequal_in m ns (items_of rest.now)) all)
+        ∙ ap (λ u. option_or u all) (sym (ap (λ xs. unequal_in m ns (items_of xs)) is
+        ∙ unequal-put m ns first (items_of rest.now)))
 
-  pub first-lighter : (n : ℕ) → n < weight_of_all new + work_of (put_op first done)
-      → n < weight_of_all ts + (1 + work_of (items_of ops))
-  first-lighter n h =
-      omega (arith, h, ap weight_of_all e, one-more ts (items_task rest),
-      work-more first ops rest.now is)
+    pub first-lighter : (n : ℕ) → n < weight_of_all new + work_of (put_op first done)
+        → n < weight_of_all ts + (1 + work_of (items_of ops))
+    first-lighter n h =
+        omega (
+          arith,
+          h,
+          ap weight_of_all e,
+          one-more ts (items_task rest),
+          work-more first ops rest.now is,
+        )
 
 -- ---- iterations
 

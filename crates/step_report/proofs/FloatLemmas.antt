@@ -137,8 +137,14 @@ no_float_bound c (Some a) = no_float_bindings (attempt_bound c a)
 
 no_float_in_outcome : (c : Context) (a : Option (Attempt Forest)) → has_float (outcome c a) ≡ false
 no_float_in_outcome c a =
-    rw (no_float_bound c a, no_float_macro c.texts a, no_float_told c a, no_float_result a,
-    no_float_rule a, no_float_stays a) refl
+    rw (
+      no_float_bound c a,
+      no_float_macro c.texts a,
+      no_float_told c a,
+      no_float_result a,
+      no_float_rule a,
+      no_float_stays a,
+    ) refl
 
 pub step_has_no_float : (c : Context) (index : ℕ) (parent : Option ℕ) (s : Step Forest)
     → has_float (step c index parent s) ≡ false

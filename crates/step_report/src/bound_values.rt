@@ -100,10 +100,7 @@ pub(crate) struct RuleValues {
 }
 
 // What is told of a rule, if there is one.
-fn values_of(
-    alloc: Global,
-    bound: &Option<BoundRule<'_>>,
-) -> Result<RuleValues, AllocError>
+fn values_of(alloc: Global, bound: &Option<BoundRule<'_>>) -> Result<RuleValues, AllocError>
     ensures bindings { IfOk result (λ v. view v.bindings
         ≡ bindings_of (option_map rule_given bound.now)) }
     ensures notes { IfOk result (λ v. view v.notes ≡ notes (option_map rule_given bound.now)) }

@@ -79,11 +79,7 @@ fn push_refusal(out: &mut String) -> Result<(), AllocError>
 }
 
 // Adds how many iterations two metavariables of a repetition have.
-fn push_unequal(
-    alloc: Global,
-    out: &mut String,
-    unequal: Unequal<'_>,
-) -> Result<(), AllocError>
+fn push_unequal(alloc: Global, out: &mut String, unequal: Unequal<'_>) -> Result<(), AllocError>
     ensures { Adds result out.old out.new (unequal_words (unequal_given unequal.entry)) }
 {
     out.push_str("a repetition has ")?;
@@ -188,10 +184,7 @@ fn push_names<'a>(
 }
 
 /// All notes, in order.
-pub(crate) fn notes_of<'a>(
-    alloc: Global,
-    notes: &Notes<'a>,
-) -> Result<Vec<Note<'a>>, AllocError>
+pub(crate) fn notes_of<'a>(alloc: Global, notes: &Notes<'a>) -> Result<Vec<Note<'a>>, AllocError>
     ensures { IfOk result (λ list. map note_given list.items ≡ notes_of (notes_given notes.now)) }
 {
     let mut list = Vec::new(alloc);
