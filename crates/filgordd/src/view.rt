@@ -44,7 +44,7 @@ pub(crate) fn reply_of(
 
 // How many steps a page carries, how many tokens rules may put out for them, and how many bytes
 // tell of them.
-const MOST_STEPS: usize = 2_000;
+const MOST_STEPS: usize = 1_000;
 const MOST_TOKENS: u32 = 50_000;
 const MOST_BYTES: usize = 262_144;
 
