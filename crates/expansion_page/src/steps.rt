@@ -6,7 +6,8 @@ use html_code::push_escaped;
 use std::alloc::AllocError;
 
 // It stands behind all else of a page, in a column of its own, and is hidden where no script runs.
-const STEPS: &str = r##"<aside id=p aria-label="Steps" tabindex=0 hidden><h2>Steps</h2><pre><bdi>"##;
+const STEPS: &str =
+    r##"<aside id=p aria-label="Steps" tabindex=0 hidden><h2>Steps</h2><pre><bdi>"##;
 
 const STEPS_END: &str = "</bdi></pre></aside>\n";
 

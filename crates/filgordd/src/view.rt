@@ -45,7 +45,9 @@ pub(crate) fn reply_of(
 // How many steps a page carries, how many tokens rules may put out for them, and how many bytes
 // tell of them.
 const MOST_STEPS: usize = 1_000;
+
 const MOST_TOKENS: u32 = 50_000;
+
 const MOST_BYTES: usize = 262_144;
 
 // As many whole lines as a page carries, and a last one where they are not all.
