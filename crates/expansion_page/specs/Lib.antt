@@ -1,2 +1,3 @@
 -- what the public contracts rest on
 pub mod Pages
+pub mod Steps

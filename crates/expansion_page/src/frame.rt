@@ -11,8 +11,8 @@ const HEAD: &str = r##"<!doctype html>
 <meta name=viewport content="width=device-width">
 <meta name=generator content=Filgordd>
 <meta http-equiv=Content-Security-Policy content="default-src 'none'; base-uri 'none';
- form-action 'none'; style-src 'sha256-WT5Mk+0lLm8ZaJ6BOwA6J68mnQanXoo1DFlUdmaGC88=';
- script-src 'sha256-oKaEnlCeAwywHTylcRm/LmgZ9Sa/19R4atN0P+JkX4c='">
+ form-action 'none'; style-src 'sha256-IDgNc+g3wUVN3DYnNQ3hfTLJCVIafG72YNjWr96E3uw=';
+ script-src 'sha256-TDAnLF0LmECxhWFZTKTCHPzfGphKR9gIF1W8JSUwbiY='">
 <title>"##;
 
 const HEADING: &str = r##": expansion</title>
@@ -41,9 +41,16 @@ section:focus-visible h2 { color: var(--text); box-shadow: inset 3px 0 var(--oth
 button { font: inherit; color: inherit; background: none; cursor: pointer; padding: .1em .6em;
   border: 1px solid var(--line); border-radius: 4px; }
 button[aria-pressed=true] { color: var(--text); border-color: var(--other); }
-#tabs button:not([data-tab=l]) { display: none; }
-aside { display: none; grid-row: 2; grid-column: 3; width: 17rem; font-size: .85rem; }
-.listed aside { display: block; }
+#tabs button:is([data-tab=s], [data-tab=e]), #tabs [hidden] { display: none; }
+aside { display: none; grid-row: 2; grid-column: 3; width: 17rem; font-size: .85rem; outline: 0; }
+.listed #l, .stepped #p { display: block; }
+#p { width: 34rem; max-width: 45vw; }
+#p:focus-visible h2 { color: var(--text); box-shadow: inset 3px 0 var(--other); }
+#p p { padding: .4em 1.5rem; color: var(--dim); }
+#p pre { margin: 0; white-space: pre-wrap; overflow-wrap: anywhere;
+  font: 12px/1.5 ui-monospace, Menlo, "DejaVu Sans Mono", monospace; }
+#p div { padding: .3em 1.5rem; }
+#p .m { background: var(--head); box-shadow: inset 3px 0 var(--other); }
 aside h3 { padding: .7em 1.5rem .2em; font-weight: 600; }
 aside ul { margin: 0; padding: 0; list-style: none; }
 aside li { padding: .1em 1.2rem .1em 1.5rem; overflow-wrap: anywhere; }
@@ -91,8 +98,10 @@ nav a::before { content: "\25cf"; padding-right: .5em; color: var(--fault); }
   body[data-tab] { grid-template-columns: minmax(0, 1fr); }
   body[data-tab] > section, body[data-tab] > aside { display: none; grid-row: 2;
     grid-column: 1; width: auto; }
-  [data-tab=s] > #s, [data-tab=e] > #e, [data-tab=l] > #l { display: block !important; }
-  body[data-tab] h2 { display: none; } #tabs button:not([data-tab=l]) { display: inline; }
+  [data-tab=s] > #s, [data-tab=e] > #e, [data-tab=l] > #l,
+  [data-tab=p] > #p { display: block !important; }
+  body[data-tab] h2 { display: none; } #p { width: auto; max-width: none; }
+  #tabs button:not([hidden]) { display: inline; }
   #s .t > * { padding-left: 3.2rem; } .n { width: 2.6rem; } .t > * { padding-right: .7rem; } }
 @media print { body { display: block; height: auto; } section { overflow: visible; }
   #tabs, aside { display: none !important; } section { display: block !important; }
@@ -103,7 +112,8 @@ nav a::before { content: "\25cf"; padding-right: .5em; color: var(--fault); }
 <header><h1>"##;
 
 const SOURCE: &str = r##"</p><p id=tabs hidden><button data-tab=s>Source</button>
-<button data-tab=e>Expansion</button> <button data-tab=l>Macros and calls</button></p></header>
+<button data-tab=e>Expansion</button> <button data-tab=l>Macros and calls</button>
+<button data-tab=p hidden>Steps</button></p></header>
 <section id=s tabindex=0 aria-label=Source><h2>Source</h2><div class=t><div>"##;
 
 const EXPANSION: &str = r##"</div></div></section>
@@ -216,6 +226,7 @@ const readNext = () => {
     link();
     tint();
     list();
+    match();
     [...source.blocks, ...shown.blocks].forEach(dress);
   }
 };
@@ -397,11 +408,12 @@ const list = () => {
   if (innerWidth >= 1100) document.body.classList.add("listed");
   press();
 };
-// In a narrow window one pane is shown at a time.
+// In a narrow window one pane is shown at a time, in a wide one two of three or four.
+const CLASSES = { l: "listed", p: "stepped" };
 const isNarrow = () => matchMedia("(max-width: 48em)").matches;
 const press = () => document.querySelectorAll("#tabs button").forEach((button) => {
   const id = button.dataset.tab, body = document.body;
-  const isShown = isNarrow() ? body.dataset.tab === id : body.classList.contains("listed");
+  const isShown = isNarrow() ? body.dataset.tab === id : body.classList.contains(CLASSES[id]);
   button.setAttribute("aria-pressed", isShown);
 });
 const showTab = (id) => {
@@ -409,10 +421,15 @@ const showTab = (id) => {
   press();
   if (kept) [kept, ...others(kept)].filter(({ pane }) => pane.id === id).slice(0, 1).forEach(see);
 };
+const showAside = (id) => {
+  const list = document.body.classList, isShown = list.contains(CLASSES[id]);
+  list.remove("listed", "stepped");
+  list.toggle(CLASSES[id], !isShown);
+};
 document.getElementById("tabs").addEventListener("click", ({ target }) => {
   if (!target.dataset.tab) return;
   if (isNarrow()) showTab(target.dataset.tab);
-  else document.body.classList.toggle("listed");
+  else showAside(target.dataset.tab);
   press();
 });
 addEventListener("resize", press);
@@ -452,9 +469,86 @@ const see = (it) => {
   if (fold && !element.closest("summary")) fold.open = true;
   element.scrollIntoView({ block: "nearest" });
 };
+// The pane of steps: of each call that is written in the source, one by one. A call in another
+// has none of its own, unless that stays.
+const roots = [];
+let stepper = null, chosen = 0, root = null;
+const readSteps = () => {
+  stepper = document.getElementById("p");
+  const told = stepper ? stepper.querySelector("bdi").textContent : "", cuts = [];
+  for (const line of told.split("\n").filter((it) => it)) {
+    const place = /^\S.*:(\d+):\d+: (.+)!$/.exec(line), last = roots[roots.length - 1];
+    if (place) roots.push({ line: +place[1], key: place[2], steps: [], call: null });
+    else if (last && line.startsWith("cut: what ")) last.steps.push(line);
+    else if (line.startsWith("cut: ")) cuts.push(line);
+    else if (last && /^[ \d]{2}\d {2}/.test(line)) last.steps.push(line);
+    else if (last && last.steps.length) last.steps[last.steps.length - 1] += `\n${line}`;
+  }
+  if (!roots.length) return;
+  cuts.slice(-1).forEach((cut) => stepper.append(element("p", element("bdi", cut))));
+  document.querySelector("[data-tab=p]").hidden = document.getElementById("tabs").hidden = false;
+  press();
+  showSteps();
+};
+const isNamed = (it, call) => it.key === call.name || it.key.endsWith(`::${call.name}`);
+// Finds the calls, in order. What is in a call that is expanded is passed over.
+const match = () => {
+  let which = 0;
+  for (const it of roots) {
+    let at = which;
+    while (at < calls.length && (calls[at].line !== it.line || !isNamed(it, calls[at]))) at += 1;
+    if (at === calls.length) continue;
+    it.call = calls[at];
+    const stop = /  stays: /.test(it.steps[0]) ? it.call.at : it.call.end;
+    for (which = at; which < calls.length && calls[which].at <= stop;) which += 1;
+  }
+};
+const showSteps = () => {
+  if (!stepper) return;
+  const words = root ? root.steps : ["Choose a call in the source."];
+  stepper.querySelector("pre").replaceChildren(...words.map((it) => {
+    const item = element("div", "");
+    item.append(...it.split("\n").flatMap(lineOf));
+    return item;
+  }));
+  choose(0);
+};
+// A line, and what stands beside it.
+const lineOf = (line) => {
+  const [, left, right] = /^(?! +(?:=|note:) )(.*\S) {2,}(\S.*)$/.exec(line) || [null, line, ""];
+  const beside = element("span", element("bdi", right));
+  beside.className = "c";
+  return [element("bdi", left), right ? "   " : "", right ? beside : "", "\n"];
+};
+const choose = (at) => {
+  const items = [...stepper.querySelectorAll("pre div")];
+  chosen = Math.max(0, Math.min(at, items.length - 1));
+  items.forEach((it, i) => {
+    it.classList.toggle("m", root && i === chosen);
+    if (root && i === chosen) it.setAttribute("aria-current", "step");
+    else it.removeAttribute("aria-current");
+  });
+  if (root) items[chosen].scrollIntoView({ block: "nearest" });
+};
+const walkSteps = (event) => {
+  const count = root ? root.steps.length : 0;
+  const at = { ArrowDown: chosen + 1, ArrowUp: chosen - 1, Home: 0, End: count - 1 }[event.key];
+  if (at === undefined) return;
+  event.preventDefault();
+  choose(at);
+};
+const seek = (it) => {
+  const [here] = it ? (it.pane === source ? [it] : others(it)) : [];
+  const isIn = ({ call }) => call && call.at <= here.at && here.at <= call.end;
+  const found = here ? roots.filter(isIn).pop() || null : null;
+  if (found === root) return;
+  root = found;
+  showSteps();
+};
 const keep = (it, isSeen) => {
   kept = it;
   mark(it);
+  seek(it);
   if (it && isNarrow()) {
     if (isSeen) showTab(it.pane.id);
   } else if (it) {
@@ -477,7 +571,8 @@ const tokenOf = (target, event) => {
 };
 addEventListener("mouseover", (event) => mark(tokenOf(event.target, event) || kept));
 addEventListener("click", (event) => {
-  const it = tokenOf(event.target, event);
+  const it = tokenOf(event.target, event), item = event.target.closest("#p div");
+  if (item && root) choose([...item.parentNode.children].indexOf(item));
   if (!it) return;
   event.preventDefault();
   keep(isSame(it, kept) ? null : it, false);
@@ -486,6 +581,7 @@ addEventListener("click", (event) => {
 addEventListener("keydown", (event) => {
   const active = document.activeElement;
   if (event.key === "Escape") keep(null);
+  if (active === stepper && !(event.altKey || event.ctrlKey || event.metaKey)) walkSteps(event);
   if (!active.matches("section") || event.altKey || event.ctrlKey || event.metaKey) return;
   const pane = active.id === "e" ? shown : source, isHere = kept && kept.pane === pane;
   const step = { ArrowRight: 1, ArrowLeft: -1 }[event.key];
@@ -510,6 +606,11 @@ const follow = () => {
 addEventListener("hashchange", follow);
 addEventListener("beforeprint", () => {
   document.querySelectorAll("details").forEach((it) => { it.open = true; });
+});
+addEventListener("DOMContentLoaded", () => {
+  readSteps();
+  if (isRead()) match();
+  if (kept) seek(kept);
 });
 document.body.dataset.tab = "s";
 document.getElementById("tabs").hidden = !isNarrow();
