@@ -16,6 +16,7 @@ mod module_ends;
 mod other;
 mod picks;
 mod renamed;
+mod rounds;
 mod shown;
 mod source;
 mod spots;
@@ -34,8 +35,9 @@ pub use load::{
     sources_of,
 };
 pub use module_ends::file_text;
+pub use rounds::whole_from;
 pub use shown::{one_line, push_shown};
 pub use source::blank_front;
 pub use told::fault_lines;
 pub use walked::Walked;
-pub use whole::{Whole, names_of_whole, prelude_of_file, prelude_of_path, whole_from};
+pub use whole::{Whole, names_of_whole, prelude_of_file, prelude_of_path};

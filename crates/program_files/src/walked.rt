@@ -155,7 +155,8 @@ fn no_root<T>(rt: &HostRuntime, root: &str) -> Result<T, Ended> {
     Err(Ended::Status(status))
 }
 
-/// The crate with this root among these files, at home there. Its sources have the numbers behind this one.
+/// The crate with this root among these files, at home there. Its sources have the numbers behind
+/// this one.
 pub(crate) fn crate_from(
     rt: &HostRuntime,
     files: &impl Files,

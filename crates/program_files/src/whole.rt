@@ -1,21 +1,16 @@
 //! All that files of a crate are expanded after.
 
-use crate::calls::{Again, Expands, Opened, opened_files};
-use crate::chosen::{file_at, numbers};
+use crate::chosen::file_at;
 use crate::disk::Disk;
-use crate::externs::{Extern, externs_of, push_event};
+use crate::externs::{Extern, push_event};
 use crate::imports::Import;
-use crate::load::{Ended, OtherWords, Sources, names_of, prelude_of, sources_of};
-use crate::walked::{Walked, crate_from};
+use crate::load::{Sources, names_of, prelude_of};
+use crate::walked::Walked;
 use crate_picks::push_places;
 use crate_walk::{Event, Modules, Place};
 use expander::Prelude;
 use std::alloc::{AllocError, Global};
-use std::collections::BTreeMap;
 use tt_data::TtFault;
-
-// How many times a crate is walked through at most for what calls hand on.
-const MOST_ROUNDS: usize = 8;
 
 /// A crate, and what is given of others.
 #[derive(Drop)]
@@ -25,62 +20,9 @@ pub struct Whole {
     /// Other crates.
     pub(crate) externs: Vec<Extern>,
     // The number of the last source of these.
-    last: u32,
+    pub(crate) last: u32,
     /// The crate.
     pub walked: Walked,
-}
-
-// The crate once more after a walk, where what is in these calls counts. Its sources have the
-// numbers behind this one.
-fn walked_again(
-    rt: &HostRuntime,
-    disk: &Disk<'_>,
-    whole: &Whole,
-    opened: &Opened,
-    root: &str,
-) -> Result<Walked, Ended> {
-    let before = &whole.walked.modules;
-    let numbers = numbers(rt.alloc(), before)?;
-    let again = Again {
-        disk,
-        before,
-        numbers,
-        opened,
-    };
-    crate_from(rt, &again, root, whole.last, None)
-}
-
-/// The crate with this root, and what these words give of others.
-///
-/// Modules that calls hand on are entered too: after a walk, files with such calls are expanded, and
-/// the crate is walked through once more with what these calls hand on, until no more is found, at
-/// most eight times.
-pub fn whole_from(
-    rt: &HostRuntime,
-    words: OtherWords<'_>,
-    disk: &Disk<'_>,
-    root: &str,
-    expands: &impl Expands,
-) -> Result<Whole, Ended> {
-    let sources = sources_of(rt, words)?;
-    let last = sources.files.len().min(1_000_000) as u32;
-    let (externs, last) = externs_of(rt, disk, words.externs, last)?;
-    let mut whole = Whole {
-        sources,
-        externs,
-        last,
-        walked: crate_from(rt, disk, root, last, None)?,
-    };
-    let mut known = BTreeMap::new(rt.alloc());
-    for _ in 0..MOST_ROUNDS {
-        let opened = opened_files(rt, disk.options, &whole, expands)?;
-        if opened == known {
-            break;
-        }
-        whole.walked = walked_again(rt, disk, &whole, &opened, root)?;
-        known = opened;
-    }
-    Ok(whole)
 }
 
 /// Whether an event may bring all that another crate exports.
