@@ -4,11 +4,15 @@
 Starts `PROGRAM lsp` for each of two texts of 0.93 MB: functions and calls of one macro, in 28,300 pieces; and that of
 bench/edits.sh, 12,000 pieces with 2,000 definitions. It opens the text, types a letter in its middle and takes it out again, and
 asks about a call and about the whole text, also right behind a change. Prints the milliseconds by the clock until each answer
-came: for changes until their diagnostics did."""
+came: for changes until their diagnostics did.
+
+Then it opens 100 texts of 50 KB, and prints the most memory of the process. Last it serves a crate of 20 files, of which ten are
+open: a letter is typed in a function, and in a definition that all see."""
 import json
 import statistics
 import subprocess
 import sys
+import tempfile
 import time
 from pathlib import Path
 
@@ -45,8 +49,8 @@ TEXTS = [
 
 
 class Server:
-    def __init__(self, program):
-        self.ran = subprocess.Popen([program, "lsp"], stdin=subprocess.PIPE, stdout=subprocess.PIPE)
+    def __init__(self, program, *options):
+        self.ran = subprocess.Popen([program, "lsp", *options], stdin=subprocess.PIPE, stdout=subprocess.PIPE)
 
     def send(self, method, params=None, id=None):
         message = {"jsonrpc": "2.0", "method": method, **({} if params is None else {"params": params}), **({} if id is None else {"id": id})}
@@ -96,23 +100,84 @@ def rows(server, function, call):
     yield "symbols behind a change", listed
 
 
-def measure(program, name, text, function, call):
-    server = Server(program)
-    server.taken("initialize", {}, 1)
-    opened = {"uri": URI, "languageId": "rust", "version": 1, "text": text}
-    taken = server.taken("textDocument/didOpen", {"textDocument": opened})
-    print(f"{name}\n  opened: {taken:.1f} ms")
-    for what, times in rows(server, function, call):
-        print(f"  {what}: {min(times):.1f} ms, median {statistics.median(times):.1f} ms")
+def opened(server, uri, text):
+    it = {"uri": uri, "languageId": "rust", "version": 1, "text": text}
+    return server.taken("textDocument/didOpen", {"textDocument": it})
+
+
+# Ends a server, and answers its status.
+def ended(server):
     server.taken("shutdown", None, 4)
     server.send("exit")
     return server.ran.wait()
 
 
+def measure(program, name, text, function, call):
+    server = Server(program)
+    server.taken("initialize", {}, 1)
+    print(f"{name}\n  opened: {opened(server, URI, text):.1f} ms")
+    for what, times in rows(server, function, call):
+        print(f"  {what}: {min(times):.1f} ms, median {statistics.median(times):.1f} ms")
+    return ended(server)
+
+
+# The most memory of a process, in MB.
+def most_memory(process):
+    lines = Path(f"/proc/{process}/status").read_text().splitlines()
+    return next(int(it.split()[1]) for it in lines if it.startswith("VmHWM")) / 1024
+
+
+def measure_many(program):
+    server, text = Server(program), text_of(50_000)
+    server.taken("initialize", {}, 1)
+    times = [opened(server, f"file:///a{i}.rs", text) for i in range(100)]
+    print(f"100 texts of 50 KB\n  opened: {sum(times):.0f} ms in all, {most_memory(server.ran.pid):.0f} MB")
+    return ended(server)
+
+
+# A crate of 20 files: definitions in a.rs, and calls of them in the others, 50 KB each.
+def crate_files():
+    others = [f"f{i}" for i in range(19)]
+    yield "lib.rs", "#[macro_use]\nmod a;\n" + "".join(f"mod {it};\n" for it in others)
+    yield "a.rs", "macro_rules! seen { () => { 1 } }\n" + text_of(50_000)
+    for it in others:
+        yield f"{it}.rs", text_of(50_000) + "fn last() { seen!() }\n"
+
+
+# The milliseconds from a change of a text until a question behind it is answered.
+def settled(server, uri, line, column, turn):
+    end = column if turn % 2 == 0 else column + 1
+    where = {"start": {"line": line, "character": column}, "end": {"line": line, "character": end}}
+    changes = [{"range": where, "text": "2" if turn % 2 == 0 else ""}]
+    start = time.perf_counter()
+    server.send("textDocument/didChange", {"textDocument": {"uri": uri, "version": turn + 2}, "contentChanges": changes})
+    server.send("x/unknown", None, 9)
+    while server.message().get("id") != 9:
+        pass
+    return (time.perf_counter() - start) * 1e3
+
+
+def measure_crate(program):
+    with tempfile.TemporaryDirectory() as folder:
+        for name, text in crate_files():
+            Path(folder, name).write_text(text)
+        server = Server(program, "--crate", f"{folder}/lib.rs")
+        server.taken("initialize", {}, 1)
+        for name, text in list(crate_files())[1:11]:
+            opened(server, f"file://{folder}/{name}", text)
+        print("a crate of 20 files of 50 KB, ten of them open")
+        for what, name, *place in (("a function", "f0.rs", 1, 4), ("a definition that all see", "a.rs", 0, 28)):
+            times = [settled(server, f"file://{folder}/{name}", *place, turn) for turn in range(20)]
+            print(f"  a letter in {what}: {min(times):.1f} ms, median {statistics.median(times):.1f} ms")
+        return ended(server)
+
+
 def main():
     if len(sys.argv) != 2:
         sys.exit("usage: bench/server.py PROGRAM")
-    sys.exit(max([measure(sys.argv[1], name, text(), function, call) for name, text, function, call in TEXTS]))
+    program = sys.argv[1]
+    found = [measure(program, name, text(), function, call) for name, text, function, call in TEXTS]
+    sys.exit(max([*found, measure_many(program), measure_crate(program)]))
 
 
 main()

@@ -216,9 +216,25 @@ def definition(program, uri, text, place):
         return None
     trees = texts.trees_of(text)
     call = texts.call_around(trees, texts.index_of(text, *place))
-    found = call and texts.definition_before(trees, call.start, call.name)
-    name = found and found.name
-    return name and {"uri": uri, "range": texts.range_of(text, name.start, name.end)}
+    if not call:
+        return None
+    found = texts.definition_before(trees, call.start, call.name)
+    return place_of_name(uri, text, found.name) if found else elsewhere(program, call.name)
+
+
+def place_of_name(uri, text, name):
+    return {"uri": uri, "range": texts.range_of(text, name.start, name.end)}
+
+
+# The last definition of this name in the file that is handed over beside the texts.
+def elsewhere(program, name):
+    if "--with" not in program.options:
+        return None
+    path = program.options[program.options.index("--with") + 1]
+    with open(path, encoding="utf-8") as file:
+        text = file.read()
+    found = [it.name for it in texts.definitions(texts.trees_of(text)) if it.name.name == name]
+    return place_of_name(f"file://{path}", text, found[-1]) if found else None
 
 
 class Around:

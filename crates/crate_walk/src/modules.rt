@@ -1,5 +1,5 @@
 //! The modules of a crate in order.
-ghost use Rattle.std.specs.Prelude.{◌≡◌, ◌<◌, Some, length, option_copied, option_map};
+ghost use Rattle.std.specs.Prelude.{◌≡◌, ◌<◌, Some, length, option_copied, option_map, slice_set};
 ghost use Rattle.std.specs.List.{slice_get};
 ghost use Rattle.crate_walk.specs.Files.{event_of};
 ghost use Rattle.crate_walk.specs.Modules.{files_of, steps_of};
@@ -46,6 +46,19 @@ impl Modules {
         ensures { option_copied result ≡ slice_get (files_of self.now).contents file }
     {
         self.table.contents.as_slice().get(file)
+    }
+
+    /// Has the file of this number have this in place of what was read. Nothing changes if there is
+    /// no such file.
+    pub fn set_content(&mut self, file: usize, content: Content)
+        ensures contents { (files_of self.new).contents
+            ≡ slice_set (files_of self.old).contents file content }
+        ensures names { (files_of self.new).names ≡ (files_of self.old).names }
+        ensures steps { steps_of self.new ≡ steps_of self.old }
+    {
+        if file < self.table.contents.len() {
+            self.table.contents[file] = content;
+        }
     }
 
     /// The event of this index of a file.

@@ -2,7 +2,7 @@
 use crate::listed::{Entry, Listed, file, link};
 use crate::told::walk_told;
 use cfg_options::CfgOptions;
-use crate_walk::{textual_picks, walk_crate};
+use crate_walk::{Content, Modules, Unread, textual_picks, walk_crate};
 use std::alloc::{AllocError, Global};
 use std::test::Fail;
 
@@ -179,5 +179,33 @@ fn refused_walks(rt: HostRuntime) -> Result<(), Fail> {
         told.as_str(),
         "macro_rules m\nmod a in a.rs {\nmod d of 1 {\nmod e missing\n}\n}\nuse b::c as c\n}\n1 0 ",
     );
+    Ok(())
+}
+
+// How many events a file has.
+fn event_count(modules: &Modules, file: usize) -> usize {
+    match modules.content(file) {
+        Some(content) => content.events().len(),
+        None => 0,
+    }
+}
+
+// Another content stands in place of what was read; past the last file nothing changes.
+#[test]
+fn another_content(rt: HostRuntime) -> Result<(), Fail> {
+    let options = CfgOptions::new(rt.alloc());
+    let files = Listed {
+        entries: &[file("lib.rs", "macro_rules! m { () => {} }")],
+        options: &options,
+    };
+    let Some(mut modules) = walk_crate(rt.alloc(), &files, "lib.rs", 9)? else {
+        return Err(Fail::new("no root"));
+    };
+    let steps = modules.steps().len();
+    modules.set_content(1, Content::Unread(Unread::Failed));
+    assert_eq!(rt; event_count(&modules, 0), 1);
+    modules.set_content(0, Content::Unread(Unread::Failed));
+    assert_eq!(rt; event_count(&modules, 0), 0);
+    assert_eq!(rt; modules.steps().len(), steps);
     Ok(())
 }

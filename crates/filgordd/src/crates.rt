@@ -15,7 +15,7 @@ use expander_run::program::put;
 use program_files::{
     Chosen, Disk, Ended, Expands, Whole, chosen_files, code_in, fault_lines, fault_words,
     file_text, listed, misused, opened, prelude_of_file, push_shown, refusal, refused, tell_lacks,
-    whole_from,
+    tell_written, whole_from,
 };
 use std::alloc::{AllocError, Global};
 use std::process::ExitCode;
@@ -39,14 +39,14 @@ fn options_of(rt: &HostRuntime, job: &Job<'_>) -> Result<Options<AnyGrammar>, En
     Ok(under(&job.options, Some(set)))
 }
 
-// What expands the texts of a crate by a job's options, as many levels deep as they may be.
+/// What expands the texts of a crate by a job's options, as many levels deep as they may be.
 #[derive(Drop)]
-struct Texts<'a> {
-    rt: &'a HostRuntime,
-    job: &'a Job<'a>,
+pub(crate) struct CrateTexts<'a> {
+    pub(crate) rt: &'a HostRuntime,
+    pub(crate) job: &'a Job<'a>,
 }
 
-impl Expands for Texts<'_> {
+impl Expands for CrateTexts<'_> {
     fn expansion(&self, prelude: Prelude, text: &str) -> Result<Option<Expansion>, Ended> {
         let mut options = options_of(self.rt, self.job)?;
         options.depth = MOST_LEVELS;
@@ -332,9 +332,10 @@ pub(crate) fn walked(
     disk: &Disk<'_>,
     root: &str,
 ) -> Result<Whole, Ended> {
-    let whole = whole_from(rt, job.others(), disk, root, &Texts { rt, job })?;
+    let whole = whole_from(rt, job.others(), disk, root, &CrateTexts { rt, job })?;
     let folder = folder_of(rt)?;
     tell_lacks(rt, &whole.walked.modules, folder.as_str())?;
+    tell_written(rt, &whole, folder.as_str())?;
     Ok(whole)
 }
 

@@ -11,6 +11,7 @@ mod explain;
 mod job;
 mod json;
 mod layout;
+mod open_files;
 mod place;
 mod request;
 mod server;

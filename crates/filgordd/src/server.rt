@@ -1,20 +1,22 @@
 //! Serves an editor on the program's streams.
 
 use crate::conditions::{cfg_of, under};
-use crate::crates::{set_of, walked};
+use crate::crates::{CrateTexts, set_of, walked};
 use crate::job::{Diagnostics, Job};
+use crate::open_files::OpenFiles;
 use crate::uri::path_of;
 use any_grammar::AnyGrammar;
 use cfg_options::CfgOptions;
+use crate_walk::Files;
 use expander::{Options, Prelude};
 use program_files::{
-    Disk, Ended, Sources, Whole, names_of, names_of_whole, prelude_of, prelude_of_path, sources_of,
-    stopped,
+    Disk, Ended, Origin, Sources, Whole, names_of, names_of_whole, origin_of, origin_of_whole,
+    prelude_of, prelude_of_path, replace_source, replace_text, sources_of, stopped,
 };
-use session_workspace::{Setup, Shown, end_words, serve_texts};
+use session_workspace::{Elsewhere, Setup, Shown, end_words, serve_texts};
 use std::alloc::{AllocError, Global};
 use std::process::ExitCode;
-use tt_data::TtFault;
+use tt_data::{TextRange, TtFault};
 
 // The files whose definitions an editor's texts are expanded after.
 #[derive(Drop)]
@@ -26,23 +28,61 @@ enum Given {
 // By what an editor's texts are expanded: a job's options, and files.
 #[derive(Drop)]
 struct Texts<'a> {
-    options: &'a Options<AnyGrammar>,
-    // The words for options of `cfg`, each of which is one.
-    cfg: &'a [&'a str],
-    // Whether faults are told that the dialect excuses.
-    tells_all: bool,
+    rt: &'a HostRuntime,
+    job: &'a Job<'a>,
     disk: Disk<'a>,
     given: Given,
+    open: OpenFiles,
+}
+
+impl Given {
+    // The file that the source of this index, from 0, comes from.
+    fn origin(&self, index: usize) -> Option<Origin<'_>> {
+        match self {
+            Given::Sources(sources) => origin_of(sources, index),
+            Given::Crate(whole) => origin_of_whole(whole, index),
+        }
+    }
+}
+
+impl Texts<'_> {
+    // Has the file of this path have this text, or its own.
+    fn replace_file(&mut self, path: &str, text: Option<&str>) -> Result<bool, Ended> {
+        let (rt, job) = (self.rt, self.job);
+        match &mut self.given {
+            Given::Sources(sources) => replace_source(rt, &self.disk, sources, path, text),
+            Given::Crate(whole) => {
+                let expands = CrateTexts { rt, job };
+                replace_text(rt, &self.disk, whole, path, text, &expands)
+            }
+        }
+    }
+
+    // The name of a file that definitions come from.
+    fn name_of(&self, alloc: Global, origin: Origin<'_>) -> Result<Option<String>, AllocError> {
+        let name = origin.name;
+        match self.job.library {
+            Some(folder) if origin.is_library => {
+                let path = format!(in alloc; "{folder}/{name}")?;
+                self.disk.find(alloc, path.as_str())
+            }
+            _ => self.disk.find(alloc, name),
+        }
+    }
 }
 
 impl Setup for Texts<'_> {
+    // Which definitions are the right ones is not said.
+    ghost gives = { λ _ _ _. Unit {0} };
+
     fn options(&self, alloc: Global) -> Result<Options<AnyGrammar>, AllocError> {
-        let cfg = match (cfg_of(alloc, self.cfg)?.unwrap_or(None), &self.given) {
+        let words = self.job.cfg.as_slice();
+        let cfg = match (cfg_of(alloc, words)?.unwrap_or(None), &self.given) {
             (None, Given::Crate(_)) => Some(CfgOptions::new(alloc)),
             (cfg, _) => cfg,
         };
-        let mut options = under(self.options, cfg);
-        options.dialect.excuses &= !self.tells_all;
+        let mut options = under(&self.job.options, cfg);
+        options.dialect.excuses &= self.job.diagnostics != Diagnostics::All;
         Ok(options)
     }
 
@@ -56,11 +96,48 @@ impl Setup for Texts<'_> {
         }
     }
 
+    fn replace(
+        &mut self,
+        alloc: Global,
+        uri: &str,
+        text: Option<&str>,
+    ) -> Result<bool, AllocError> {
+        let Some(path) = path_of(alloc, uri)? else {
+            return Ok(false);
+        };
+        let path = path.as_str();
+        if let Some(name) = self.disk.find(alloc, path)? {
+            self.open.set(alloc, name.as_str(), uri, text)?;
+        }
+        match self.replace_file(path, text) {
+            Ok(changed) => Ok(changed),
+            Err(_) => Err(AllocError),
+        }
+    }
+
     fn names(&self, alloc: Global) -> Result<Vec<String>, AllocError> {
         match &self.given {
             Given::Sources(sources) => names_of(alloc, sources),
             Given::Crate(whole) => names_of_whole(alloc, whole),
         }
+    }
+
+    fn elsewhere(
+        &self,
+        alloc: Global,
+        number: u32,
+        range: TextRange,
+    ) -> Result<Option<Elsewhere>, AllocError> {
+        let Some(origin) = self.given.origin((number as usize).saturating_sub(1)) else {
+            return Ok(None);
+        };
+        let Some(name) = self.name_of(alloc, origin)? else {
+            return Ok(None);
+        };
+        let found = self
+            .open
+            .elsewhere(alloc, name.as_str(), origin.text, range)?;
+        Ok(Some(found))
     }
 }
 
@@ -86,11 +163,11 @@ pub(crate) fn serve_editor(rt: &HostRuntime, job: &Job<'_>) -> Result<ExitCode, 
         None => Given::Sources(sources_of(rt, job.others())?),
     };
     let texts = Texts {
-        options: &job.options,
-        cfg: job.cfg.as_slice(),
-        tells_all: job.diagnostics == Diagnostics::All,
+        rt,
+        job,
         disk,
         given,
+        open: OpenFiles::new(rt.alloc()),
     };
     let shown = match job.diagnostics {
         Diagnostics::Nothing => Shown::Nothing,

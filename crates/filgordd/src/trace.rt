@@ -8,12 +8,11 @@ use bridge::ReadFault;
 use expander::{Options, Refusal, Watched};
 use expander_run::lines::{read_fault_words, refusal_words};
 use expander_run::program::put;
-use expander_trace::limits::Limits;
 use program_files::{Others, stopped};
 use reply_json::{refused_line, unread_line};
 use std::io;
 use std::process::ExitCode;
-use step_report::{Answer, Asked, Form, Lines, Question, Texts, answer_to};
+use step_report::{Answer, Asked, Form, Limits, Lines, Question, Texts, answer_to};
 
 // How many tokens rules may put out for the steps.
 const MOST_TOKENS: u32 = 1_000_000;

@@ -8,13 +8,12 @@ ghost use Rattle.expander_session.specs.State.{definitions_of};
 use crate::call::call_options;
 use any_grammar::AnyGrammar;
 use expander::{Options, Prelude, Refusal, Reply, Session};
-use expander_trace::limits::Limits;
 use expansion_page::{page_with_names, push_steps};
 use program_files::Others;
 use std::alloc::{AllocError, Global};
 use std::io;
 use std::process::ExitCode;
-use step_report::{Answer, Asked, Form, Question, Texts, answer_to};
+use step_report::{Answer, Asked, Form, Limits, Question, Texts, answer_to};
 
 /// The reply of a new session over a text after these definitions.
 pub(crate) fn reply_of(

@@ -1,3 +1,4 @@
+pub mod NoteLemmas
 pub mod RequestLemmas
 pub mod SendLemmas
 pub mod ServedLemmas

@@ -81,16 +81,11 @@ pub record Serving (W : Type 0) : Type 0 where
   pub phase : Phase
   pub workspace : W
 
-abbrev pub listed : Option Data → List Data
-listed None = []
-listed (Some message) = message ∷ []
-
--- the texts follow what is told of them, and one message at most goes for that; else they stay, and
--- nothing goes but the answers that are asked for
+-- the texts follow what is told of them; else they stay, and nothing goes but the answers that are
+-- asked for
 abbrev pub TextsFollow : Option Note → (asked : List Data) → (old new : List Document) → List Data
     → Type 0
-TextsFollow (Some note) asked old new outs =
-    (message : Option Data) × (outs ≡ listed message) × Follows note old new message
+TextsFollow (Some note) asked old new outs = Follows note old new outs
 TextsFollow None asked old new outs = (new ≡ old) × (length outs ≡ length asked)
 
 -- a message comes, or a body that is none, and these messages go: each answer that is asked for,

@@ -231,10 +231,7 @@ impl<W: Workspace> Server<W> {
         let Some(note) = note_told(self.alloc, phase, method, params)? else {
             return Ok(Vec::new(self.alloc));
         };
-        match self.workspace.tell(note)? {
-            Some(message) => one(self.alloc, message),
-            None => Ok(Vec::new(self.alloc)),
-        }
+        self.workspace.tell(note)
     }
 
     // Takes a message.
@@ -258,7 +255,7 @@ impl<W: Workspace> Server<W> {
     }
 
     /// Takes the body of a message, and gives the messages that go for it: each answer that it asks
-    /// for, once, and with its id; for a notification of a text the diagnostics of the text.
+    /// for, once, and with its id; for a notification of a text the diagnostics of texts.
     ///
     /// # Errors
     ///

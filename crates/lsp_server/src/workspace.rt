@@ -1,5 +1,5 @@
 //! What keeps the client's texts and answers about them.
-ghost use Rattle.std.specs.Prelude.{◌≡◌, IfOk, List, option_map};
+ghost use Rattle.std.specs.Prelude.{◌≡◌, IfOk, List, map};
 ghost use Rattle.serde_json.specs.View.{view};
 ghost use Rattle.client_texts.specs.Texts.{Document};
 ghost use Rattle.client_texts.specs.Views.{note_view};
@@ -33,11 +33,11 @@ pub trait Workspace {
     ghost documents: { Self → List Document };
 
     /// Does what the client tells of a text, and answers what it is told for it: the diagnostics of
-    /// the text, or that there was no memory for it, so that it is no longer followed. An `Err`
-    /// says that there is no memory even for that.
-    fn tell(&mut self, note: Note<'_>) -> Result<Option<Value>, AllocError>
-        ensures { IfOk result (λ message. Follows (note_view note.entry) (documents self.old)
-            (documents self.new) (option_map view message)) };
+    /// this text and of others, or that there was no memory for a text, so that it is no longer
+    /// followed. An `Err` says that there is no memory even for that.
+    fn tell(&mut self, note: Note<'_>) -> Result<Vec<Value>, AllocError>
+        ensures { IfOk result (λ messages. Follows (note_view note.entry) (documents self.old)
+            (documents self.new) (map view messages.items)) };
 
     /// Answers a question about the text of this name. `None` if no such text is open.
     fn ask(&mut self, question: Question, uri: &str) -> Result<Option<Value>, AllocError>

@@ -4,8 +4,10 @@ ghost use Rattle.std.specs.Prelude.{◌≡◌, ◌<◌, ◌^◌, length};
 ghost use Rattle.bridge.specs.PrintedRanges.{read_ranges};
 
 use crate::disk::Disk;
+use crate::lacking::text_of;
 use crate::load::{Ended, fault_words, refusal};
 use crate::module_ends::ranges_in;
+use crate::replaced::Replaced;
 use crate::whole::{Whole, prelude_of_file};
 use cfg_options::CfgOptions;
 use crate_items::{Extents, Outline, content_of, content_of_bytes, extents_of, open_calls};
@@ -33,6 +35,7 @@ pub(crate) struct Again<'a> {
     // The numbers that files had in the walk before, by their names.
     pub(crate) numbers: BTreeMap<String, usize>,
     pub(crate) opened: &'a Opened,
+    pub(crate) replaced: &'a Replaced,
 }
 
 // What modules of an expansion come from: the offsets of their names, and where their tokens are,
@@ -68,6 +71,9 @@ impl<'a> Files for Again<'a> {
     }
 
     fn read(&self, alloc: Global, name: &str) -> Result<Content, AllocError> {
+        if let Some(text) = self.replaced.text(name) {
+            return self.read_again(alloc, name, text);
+        }
         let Some(file) = self.numbers.get(name) else {
             return self.disk.read(alloc, name);
         };
@@ -236,23 +242,33 @@ fn calls_with_modules(
     Ok(all)
 }
 
-// The text of a file of a crate with the calls opened that hand modules on, if there are some.
+// The calls of a file of a crate that may hand modules on.
+fn file_calls(
+    alloc: Global,
+    options: &CfgOptions,
+    text: &str,
+) -> Result<Vec<TextRange>, AllocError> {
+    if text.len() > u32::MAX as usize {
+        return Ok(Vec::new(alloc));
+    }
+    match extents_of(alloc, options, text)? {
+        Some(Extents { calls, .. }) => calls_with_modules(alloc, text, calls.as_slice()),
+        None => Ok(Vec::new(alloc)),
+    }
+}
+
+// The text of a file of a crate with those of these calls opened that hand modules on, if there are
+// some.
 fn opened_file(
     rt: &HostRuntime,
     options: &CfgOptions,
     whole: &Whole,
     expands: &impl Expands,
     file: usize,
+    calls: &[TextRange],
 ) -> Result<Option<Vec<u8>>, Ended> {
-    let Some(Content::Text(text, _)) = whole.walked.modules.content(file) else {
-        return Ok(None);
-    };
-    let text = text.as_str();
-    let Some(Extents { calls, .. }) = extents_of(rt.alloc(), options, text)? else {
-        return Ok(None);
-    };
-    let calls = calls_with_modules(rt.alloc(), text, calls.as_slice())?;
-    if calls.is_empty() || text.len() > u32::MAX as usize {
+    let text = text_of(&whole.walked.modules, file);
+    if text.len() > u32::MAX as usize {
         return Ok(None);
     }
     let prelude = match prelude_of_file(rt.alloc(), whole, file) {
@@ -262,22 +278,30 @@ fn opened_file(
     let Some(expansion) = expands.expansion(prelude, text)? else {
         return Ok(None);
     };
-    Ok(opened_text(rt.alloc(), options, text, &expansion, calls.as_slice())?)
+    Ok(opened_text(rt.alloc(), options, text, &expansion, calls)?)
 }
 
-/// The texts of the files of a crate with calls that hand modules on, with these calls opened.
+/// The texts of the files of a crate with calls that hand modules on, with these calls opened; and
+/// whether there are calls that may do so.
 pub(crate) fn opened_files(
     rt: &HostRuntime,
     options: &CfgOptions,
     whole: &Whole,
     expands: &impl Expands,
-) -> Result<Opened, Ended> {
+) -> Result<(Opened, bool), Ended> {
     let mut all = BTreeMap::new(rt.alloc());
-    for file in 0..whole.walked.modules.file_count() {
-        let opened = opened_file(rt, options, whole, expands, file)?;
-        if let (Some(text), Some(name)) = (opened, whole.walked.modules.file_name(file)) {
+    let mut may_hand_on = false;
+    let modules = &whole.walked.modules;
+    for file in 0..modules.file_count() {
+        let calls = file_calls(rt.alloc(), options, text_of(modules, file))?;
+        if calls.is_empty() {
+            continue;
+        }
+        may_hand_on = true;
+        let opened = opened_file(rt, options, whole, expands, file, calls.as_slice())?;
+        if let (Some(text), Some(name)) = (opened, modules.file_name(file)) {
             all.insert(String::from_str(rt.alloc(), name)?, text)?;
         }
     }
-    Ok(all)
+    Ok((all, may_hand_on))
 }

@@ -49,11 +49,15 @@ pub(crate) fn file_at(
     modules: &Modules,
     path: &str,
 ) -> Result<Option<usize>, AllocError> {
-    let Some(name) = disk.find(alloc, path)? else {
-        return Ok(None);
-    };
-    let count = modules.file_count();
-    Ok((0..count).find(|file| modules.file_name(*file) == Some(name.as_str())))
+    match disk.find(alloc, path)? {
+        Some(name) => Ok(file_named(modules, name.as_str())),
+        None => Ok(None),
+    }
+}
+
+/// The number of the file of a crate with this name, if it has one.
+pub(crate) fn file_named(modules: &Modules, name: &str) -> Option<usize> {
+    (0..modules.file_count()).find(|file| modules.file_name(*file) == Some(name))
 }
 
 // The files that words name.

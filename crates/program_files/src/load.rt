@@ -37,6 +37,8 @@ pub struct Others {
 pub(crate) struct Loaded {
     pub(crate) name: String,
     pub(crate) text: String,
+    /// The text that counts in place of it, if there is one.
+    pub(crate) other: Option<String>,
 }
 
 /// The sources whose definitions texts are expanded after, with numbers from 1 in this order.
@@ -50,6 +52,27 @@ pub struct Sources {
     pub(crate) with: Vec<Source>,
     /// All these files, in order.
     pub(crate) files: Vec<Loaded>,
+}
+
+impl Loaded {
+    /// The text that counts.
+    pub(crate) fn text_now(&self) -> &str {
+        match &self.other {
+            Some(other) => other.as_str(),
+            None => self.text.as_str(),
+        }
+    }
+}
+
+/// A file that definitions come from.
+#[derive(Clone, Copy, Drop)]
+pub struct Origin<'a> {
+    /// Its path: of a file of the library, below the library's folder.
+    pub name: &'a str,
+    /// Its text, as it counts.
+    pub text: &'a str,
+    /// Whether it is a file of the library.
+    pub is_library: bool,
 }
 
 /// Why the program ends before it reads its text.
@@ -162,7 +185,11 @@ fn file_source(
     };
     let source = text_source(rt, number, home, path, text.as_str())?;
     let name = String::from_str(rt.alloc(), name)?;
-    files.push(Loaded { name, text })?;
+    files.push(Loaded {
+        name,
+        text,
+        other: None,
+    })?;
     Ok(source)
 }
 
@@ -270,6 +297,16 @@ pub fn prelude_of(alloc: Global, sources: &Sources) -> Result<Prelude, TtFault> 
     let homes = sources.homes.as_slice();
     push_before(alloc, &mut prelude, library, homes, sources.with.as_slice())?;
     Ok(prelude)
+}
+
+/// The file that the source of this index, from 0, comes from, if there is one.
+pub fn origin_of(sources: &Sources, index: usize) -> Option<Origin<'_>> {
+    let loaded = sources.files.get(index)?;
+    Some(Origin {
+        name: loaded.name.as_str(),
+        text: loaded.text_now(),
+        is_library: index < sources.library.len(),
+    })
 }
 
 /// The names of the files that sources come from, in order of the sources' numbers, from 1.

@@ -5,6 +5,7 @@ use crate::chosen::numbers;
 use crate::disk::Disk;
 use crate::externs::externs_of;
 use crate::load::{Ended, OtherWords, sources_of};
+use crate::replaced::Replaced;
 use crate::walked::{Walked, crate_from};
 use crate::whole::Whole;
 use std::collections::BTreeMap;
@@ -12,14 +13,12 @@ use std::collections::BTreeMap;
 // How many times a crate is walked through at most for what calls hand on.
 const MOST_ROUNDS: usize = 8;
 
-// The crate once more after a walk, where what is in these calls counts. Its sources have the
-// numbers behind this one.
+// The crate once more after a walk, where what is in these calls counts.
 fn walked_again(
     rt: &HostRuntime,
     disk: &Disk<'_>,
     whole: &Whole,
     opened: &Opened,
-    root: &str,
 ) -> Result<Walked, Ended> {
     let before = &whole.walked.modules;
     let numbers = numbers(rt.alloc(), before)?;
@@ -28,8 +27,42 @@ fn walked_again(
         before,
         numbers,
         opened,
+        replaced: &whole.replaced,
     };
-    crate_from(rt, &again, root, whole.last, None)
+    crate_from(rt, &again, whole.root.as_str(), whole.last, None)
+}
+
+// Enters the modules that calls hand on too.
+fn enter_calls(
+    rt: &HostRuntime,
+    disk: &Disk<'_>,
+    whole: &mut Whole,
+    expands: &impl Expands,
+) -> Result<(), Ended> {
+    let mut known = BTreeMap::new(rt.alloc());
+    for _ in 0..MOST_ROUNDS {
+        let (opened, may_hand_on) = opened_files(rt, disk.options, whole, expands)?;
+        whole.may_hand_on = may_hand_on;
+        if opened == known {
+            break;
+        }
+        whole.walked = walked_again(rt, disk, whole, &opened)?;
+        known = opened;
+    }
+    Ok(())
+}
+
+/// Walks through the crate once more, where files have other texts. What was read of the others
+/// counts again.
+pub(crate) fn walk_replaced(
+    rt: &HostRuntime,
+    disk: &Disk<'_>,
+    whole: &mut Whole,
+    expands: &impl Expands,
+) -> Result<(), Ended> {
+    let none = BTreeMap::new(rt.alloc());
+    whole.walked = walked_again(rt, disk, whole, &none)?;
+    enter_calls(rt, disk, whole, expands)
 }
 
 /// The crate with this root, and what these words give of others.
@@ -51,16 +84,11 @@ pub fn whole_from(
         sources,
         externs,
         last,
+        root: String::from_str(rt.alloc(), root)?,
+        replaced: Replaced::new(rt.alloc()),
+        may_hand_on: false,
         walked: crate_from(rt, disk, root, last, None)?,
     };
-    let mut known = BTreeMap::new(rt.alloc());
-    for _ in 0..MOST_ROUNDS {
-        let opened = opened_files(rt, disk.options, &whole, expands)?;
-        if opened == known {
-            break;
-        }
-        whole.walked = walked_again(rt, disk, &whole, &opened, root)?;
-        known = opened;
-    }
+    enter_calls(rt, disk, &mut whole, expands)?;
     Ok(whole)
 }

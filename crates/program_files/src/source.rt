@@ -4,6 +4,7 @@ ghost use Rattle.std.specs.Prelude.{◌≡◌, ◌≤◌, ◌<◌, ◌^◌, leng
 ghost use Rattle.program_files.specs.Sources.{HasFront, IsBlanked, line_length};
 
 use rustc_lexer::strip_shebang;
+use std::alloc::{AllocError, Global};
 
 // How many bytes a `#!` line at a text's front has, without its end.
 fn line_length(text: &str) -> usize
@@ -40,4 +41,11 @@ pub fn blank_front(bytes: &mut [u8])
     };
     let front = front_length(text);
     bytes[..front].fill(b' ');
+}
+
+/// The bytes of a text, in which what is no code is blank.
+pub(crate) fn code_of(alloc: Global, text: &str) -> Result<Vec<u8>, AllocError> {
+    let mut bytes = Vec::from_slice(alloc, text.as_bytes())?;
+    blank_front(bytes.as_mut_slice());
+    Ok(bytes)
 }

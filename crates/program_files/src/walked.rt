@@ -107,8 +107,8 @@ fn definitions_in(
     }
 }
 
-// The definitions of what a file has, as the source with this number, if it has some.
-fn definitions_of(
+/// The definitions of what a file has, as the source with this number, if it has some.
+pub(crate) fn definitions_of(
     alloc: Global,
     content: Option<&Content>,
     number: u32,

@@ -4,10 +4,12 @@ use crate::chosen::file_at;
 use crate::disk::Disk;
 use crate::externs::{Extern, push_event};
 use crate::imports::Import;
-use crate::load::{Sources, names_of, prelude_of};
-use crate::walked::Walked;
-use crate_picks::push_places;
-use crate_walk::{Event, Modules, Place};
+use crate::lacking::text_of;
+use crate::load::{Origin, Sources, names_of, origin_of, prelude_of};
+use crate::replaced::Replaced;
+use crate::walked::{Walked, definitions_of};
+use crate_picks::{Definitions, push_places};
+use crate_walk::{Content, Event, Modules, Place};
 use expander::Prelude;
 use std::alloc::{AllocError, Global};
 use tt_data::TtFault;
@@ -21,6 +23,12 @@ pub struct Whole {
     pub(crate) externs: Vec<Extern>,
     // The number of the last source of these.
     pub(crate) last: u32,
+    /// The path of the crate's root.
+    pub(crate) root: String,
+    /// Texts that count in place of what the disk has.
+    pub(crate) replaced: Replaced,
+    /// Whether it has calls that may hand modules on.
+    pub(crate) may_hand_on: bool,
     /// The crate.
     pub walked: Walked,
 }
@@ -35,6 +43,17 @@ pub(crate) fn brings_all(event: &Event) -> bool {
 }
 
 impl Whole {
+    /// The definitions of what the file of this number has, if it has some.
+    pub(crate) fn definitions_in(
+        &self,
+        alloc: Global,
+        file: usize,
+        content: &Content,
+    ) -> Result<Option<Definitions>, TtFault> {
+        let number = u64::from(self.last) + file.min(1_000_000) as u64 + 1;
+        definitions_of(alloc, Some(content), number.min(0xffff_ffff) as u32, None)
+    }
+
     // Adds the definition at a place, or what it brings of another crate.
     fn push_place(
         &self,
@@ -114,6 +133,33 @@ pub fn prelude_of_path(
         Some(file) => prelude_of_file(alloc, whole, file),
         None => prelude_of(alloc, &whole.sources),
     }
+}
+
+// The file of a crate of this number.
+fn origin_in(modules: &Modules, file: usize) -> Option<Origin<'_>> {
+    Some(Origin {
+        name: modules.file_name(file)?,
+        text: text_of(modules, file),
+        is_library: false,
+    })
+}
+
+/// The file that the source of this index, from 0, comes from, if there is one: in the order of
+/// `names_of_whole`.
+pub fn origin_of_whole(whole: &Whole, index: usize) -> Option<Origin<'_>> {
+    let mut first = whole.sources.files.len();
+    if index < first {
+        return origin_of(&whole.sources, index);
+    }
+    for one in &whole.externs {
+        let modules = &one.walked.modules;
+        let next = first.saturating_add(modules.file_count());
+        if index < next {
+            return origin_in(modules, index.saturating_sub(first));
+        }
+        first = next;
+    }
+    origin_in(&whole.walked.modules, index.saturating_sub(first))
 }
 
 // Adds the names of a crate's files.

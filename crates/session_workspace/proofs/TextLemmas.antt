@@ -1,23 +1,15 @@
 -- The texts of a workspace, as a list. (For `find`, `forget`, `edit` and `tell`.)
-use Rattle.std.proofs.Common.{◌≡◌, ◌∙◌, ℕ, suc, ◌+◌, ◌<◌, ◌≤◌, List, [], ◌∷◌, ◌++◌, length, take, drop, get_or, refl, sym, ap, inl, inr, subst, Bool, true, false, Option, Some, None, arith, if◌then◌else◌, length-append, string_bytes}
-use Rattle.std.specs.Prelude.{◌⊎◌, Contains, IfErr, IfOk, OnErr, Result, Ok, Err, ℤ, option_map}
+use Rattle.std.proofs.Common.{◌≡◌, ◌∙◌, ℕ, suc, ◌+◌, ◌<◌, ◌≤◌, List, [], ◌∷◌, ◌++◌, length, take, drop, get_or, refl, sym, ap, subst, true, false, arith, length-append, string_bytes}
+use Rattle.std.specs.Prelude.{Contains, OnErr, Result, Ok, Err, ℤ}
 use Rattle.std.specs.List.{insert, remove}
 use Rattle.std.proofs.Math.Seq.{get_or-append_seam}
 use Rattle.std.proofs.lemmas.Grind.{common_steps}
 use Rattle.std.proofs.lemmas.Slice.Eq.{bytes_eq-Decides}
 use Rattle.std.proofs.lemmas.List.{take-append-drop, take-append-le, take_all, drop-append-le, drop_all, drop_more, take_more}
-use Rattle.client_texts.specs.Params.{Change, Note}
-use Rattle.client_texts.specs.Texts.{Document, after, after_edit, with_edit, without}
-use Rattle.lsp_server.specs.Workspaces.{Follows, IsPublished, name_of}
-use Rattle.serde_json.specs.Data.{Data}
-use Rattle.serde_json.specs.View.{view}
-use Rattle.serde_json.specs.declared.value.Value.{Value}
-use Rattle.std.specs.declared.alloc.AllocError.{AllocError}
-use Rattle.session_workspace.specs.declared.lost.Lost.{Lost}
-use Rattle.session_workspace.specs.OpenTexts.{HaveNone, IsFirst, IsLost, IsTold, document_of, documents_of, is_named}
+use Rattle.client_texts.specs.Params.{Change}
+use Rattle.client_texts.specs.Texts.{Document, after_edit, with_edit, without}
+use Rattle.session_workspace.specs.OpenTexts.{HaveNone, IsFirst, document_of, documents_of, is_named}
 use Rattle.session_workspace.specs.declared.open_text.OpenText.{OpenText}
-use Rattle.session_workspace.specs.declared.workspace.Shown.{Shown}
-use Rattle.session_workspace.specs.declared.workspace.Shown.TheVariants as which
 
 -- ---- lists of texts
 
@@ -38,7 +30,7 @@ edit_none uri version changes (t ∷ ts) none =
     (edit_none uri version changes ts none.1))
 
 -- the first text of this name is taken away
-without_parts : (uri : List ℕ) (front back : List OpenText) (t : OpenText) → HaveNone uri front
+pub without_parts : (uri : List ℕ) (front back : List OpenText) (t : OpenText) → HaveNone uri front
     → is_named uri t ≡ true
     → without uri (documents_of (front ++ t ∷ back)) ≡ documents_of (front ++ back)
 without_parts uri [] back t none named = rw named refl
@@ -47,7 +39,7 @@ without_parts uri (f ∷ fs) back t none named =
     (without_parts uri fs back t none.1 named))
 
 -- and changed
-edit_parts : (uri : List ℕ) (version : ℤ) (changes : List Change) (front back : List OpenText)
+pub edit_parts : (uri : List ℕ) (version : ℤ) (changes : List Change) (front back : List OpenText)
     (t new : OpenText) → HaveNone uri front → is_named uri t ≡ true
     → document_of new ≡ after_edit version changes (document_of t)
     → with_edit uri version changes (documents_of (front ++ t ∷ back))
@@ -59,23 +51,10 @@ edit_parts uri version changes (f ∷ fs) back t new none named is =
     (edit_parts uri version changes fs back t new none.1 named is))
 
 -- texts are those before one, that one, and those behind it
-parts_of : (uri : List ℕ) (texts : List OpenText) (i : ℕ) (first : IsFirst uri texts i)
+pub parts_of : (uri : List ℕ) (texts : List OpenText) (i : ℕ) (first : IsFirst uri texts i)
     → texts ≡ take i texts ++ first.text ∷ drop (i + 1) texts
 parts_of uri texts i first =
     sym (take-append-drop i texts) ∙ ap (λ (ts : List OpenText). take i texts ++ ts) first.is
-
--- the first of a name is removed
-pub first_removed : (uri : List ℕ) (texts : List OpenText) (i : ℕ) (first : IsFirst uri texts i)
-    → documents_of (remove texts i) ≡ without uri (documents_of texts)
-first_removed uri texts i first =
-    let whole : without uri (documents_of texts)
-    ≡ without uri (documents_of (take i texts ++ first.text ∷ drop (i + 1) texts)) =
-    ap (λ (ts : List OpenText). without uri (documents_of ts)) (parts_of uri texts i first) in
-    let parts : without uri (documents_of (take i texts ++ first.text ∷ drop (i + 1) texts))
-    ≡ documents_of (take i texts ++ drop (i + 1) texts) =
-    without_parts uri (take i texts) (drop (i + 1) texts) first.text first.before first.named in
-    let next : suc i ≡ i + 1 = omega arith in
-    ap (λ (n : ℕ). documents_of (take i texts ++ drop n texts)) next ∙ sym (whole ∙ parts)
 
 -- one text more that has not this name
 none-append : (uri : List ℕ) (texts : List OpenText) (t : OpenText) → HaveNone uri texts
@@ -129,19 +108,6 @@ put_back uri texts i new first =
     ∙ ap (λ (n : ℕ). drop n texts) next in
     rw (front, back) refl
 
--- then it has been changed
-pub first_changed : (uri : List ℕ) (version : ℤ) (changes : List Change) (texts : List OpenText)
-    (i : ℕ) (new : OpenText) (first : IsFirst uri texts i)
-    → document_of new ≡ after_edit version changes (document_of first.text)
-    → documents_of (insert (remove texts i) i new)
-    ≡ with_edit uri version changes (documents_of texts)
-first_changed uri version changes texts i new first is =
-    ap documents_of (put_back uri texts i new first)
-    ∙ sym (ap (λ (ts : List OpenText). with_edit uri version changes (documents_of ts))
-    (parts_of uri texts i first)
-    ∙ edit_parts uri version changes (take i texts) (drop (i + 1) texts) first.text new
-    first.before first.named is)
-
 -- a text between others is among them
 pub among : (front back : List OpenText) (t : OpenText) → Contains (front ++ t ∷ back) t
 among front back t =
@@ -156,54 +122,12 @@ first_among uri texts i first =
     subst (λ (ts : List OpenText). Contains ts first.text) (sym (parts_of uri texts i first))
     (among (take i texts) (drop (i + 1) texts) first.text)
 
--- ---- what the client is sent
-
--- what is sent for a text shows its diagnostics
-published : (shown : Shown) (t : OpenText) (message : Data) → IsTold shown t (Some message)
-    → IsPublished message
-published which.All t message told = (_, told.is)
-published which.Nothing t message told = absurd cc
-
--- the texts follow, and what is sent for a text goes
-pub follows_told : (shown : Shown) (note : Note) (old new : List Document) (t : OpenText)
-    (message : Option Data) → new ≡ after note old → IsTold shown t message
-    → Follows note old new message
-follows_told shown note old new t None is told = is
-follows_told shown note old new t (Some message) is told =
-    inl (is, published shown t message told)
-
--- or a text was lost, and that is shown
-pub follows_lost : (note : Note) (old new : List Document) (message : Option Data)
-    → new ≡ without (name_of note) old → IsLost message → Follows note old new message
-follows_lost note old new None is lost = absurd lost
-follows_lost note old new (Some message) is lost = inr (is, lost)
+-- a text that is named so has the name
+pub name_of_named : (uri : List ℕ) (t : OpenText) → is_named uri t ≡ true → string_bytes t.uri ≡ uri
+name_of_named uri t named = sym ((bytes_eq-Decides uri (string_bytes t.uri)).0 named)
 
 -- ---- what holds whatever the result is
 
 pub on_err : {A B : Type 0} (r : Result A B) (P : Type 0) → P → OnErr r P
 on_err (Ok x) P p = tt
 on_err (Err e) P p = p
-
--- what was done for a text goes, or that it was lost
-pub told_or_lost : (r : Result (Option Value) AllocError) (done : Result (Option Value) Lost)
-    (P : Option Data → Type 0) → IfOk r (λ m. IfOk done (λ told. m ≡ told))
-    → IfOk r (λ m. IfErr done (λ why. IsLost (option_map view m)))
-    → IfOk done (λ m. P (option_map view m))
-    → IfOk r (λ m. P (option_map view m) ⊎ IsLost (option_map view m))
-told_or_lost (Err e) done P same lost told = tt
-told_or_lost (Ok m) (Ok t) P same lost told =
-    inl (subst (λ (o : Option Value). P (option_map view o)) (sym same) told)
-told_or_lost (Ok m) (Err why) P same lost told = inr lost
-
--- ---- what is kept
-
--- where nothing is kept, nothing is dropped
-pub kept_none : {A : Type 0} (is_read : Bool) (kept : Option A) → kept ≡ None
-    → (if is_read then None else kept) ≡ None
-kept_none true kept none = refl
-kept_none false kept none = none
-
--- a text that is named so has the name
-pub is_own_name : (uri : List ℕ) (t : OpenText) → string_bytes t.uri ≡ uri
-    → is_named uri t ≡ true
-is_own_name uri t same = rw same ((bytes_eq-Decides uri uri).1 refl)

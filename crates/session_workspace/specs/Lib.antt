@@ -12,3 +12,4 @@ pub mod Steps
 pub mod Questions
 -- what the functions inside the crate promise each other
 pub mod Losses
+pub mod Refreshing

@@ -1,19 +1,22 @@
 -- The texts of a workspace, and what the client is sent for them. (Of this project.)
-use Rattle.std.specs.Prelude.{◌≡◌, ◌⊎◌, ◌<◌, ◌+◌, ◌++◌, ℕ, Bool, true, false, List, [], ◌∷◌, Contains, bytes_eq, drop, if◌then◌else◌, length, map, string_bytes, take, Option, Some, None, option_map, Result, Ok, Err, ⊤}
+use Rattle.std.specs.Prelude.{◌≡◌, ◌⊎◌, ◌<◌, ◌+◌, ◌++◌, ℕ, ℤ, Bool, true, false, List, [], ◌∷◌, bytes_eq, drop, if◌then◌else◌, length, map, string_bytes, take, Option, Some, None, option_map, Result, Ok, Err, ⊤}
 use Rattle.serde_json.specs.Data.{Data}
-use Rattle.client_texts.specs.Params.{Note, opened, edited, closed}
-use Rattle.client_texts.specs.Texts.{Document}
+use Rattle.client_texts.specs.Params.{Change, Note, opened, edited, closed}
+use Rattle.client_texts.specs.Texts.{Document, after_edit}
 use Rattle.any_grammar.specs.Answer.{answer}
 use Rattle.any_grammar.specs.declared.chosen.AnyGrammar.{AnyGrammar}
 use Rattle.expander_scope.specs.declared.refusal.Refusal.{Refusal}
 use Rattle.expander_session.specs.declared.session.Reply.{Reply}
-use Rattle.expander_session.specs.declared.session.Reply.TheVariants.{Read}
+use Rattle.expander_session.specs.declared.session.Reply.TheVariants.{Read, Unread}
 use Rattle.expander_session.specs.Count.{Looked}
 use Rattle.expander_session.specs.Replies.{HasCause, IsReplyIn}
 use Rattle.expander_session.specs.State.{State, definitions_of, layers_of}
-use Rattle.lsp_server.specs.Workspaces.{IsShown}
+use Rattle.lsp_server.specs.Workspaces.{IsShown, listed, name_of}
+use Rattle.tt_data.specs.Forest.{Forest}
 use Rattle.session_workspace.specs.Diagnostics.{diagnostics_of, publication, withdrawal}
 use Rattle.session_workspace.specs.declared.open_text.OpenText.{OpenText}
+use Rattle.session_workspace.specs.declared.told.Told.{Told}
+use Rattle.session_workspace.specs.declared.told.Told.TheVariants as told
 use Rattle.session_workspace.specs.declared.workspace.Shown.{Shown}
 use Rattle.session_workspace.specs.declared.workspace.Shown.TheVariants as which
 
@@ -68,57 +71,153 @@ abbrev pub is_expansion : Result Reply Refusal → Bool
 is_expansion (Ok (Read expansion)) = true
 is_expansion _ = false
 
--- a message has the diagnostics of what the session over a text gives, and it is noted whether the
--- text could be read
-pub record Publishes (t : OpenText) (message : Data) : Type 0 where
+-- what a client was told last of a text is what a session gives: the same faults, the same reading
+-- fault, or the same reason why there is no reply
+abbrev pub IsToldOf : Told → Result Reply Refusal → Type 0
+IsToldOf (told.Faults faults) (Ok (Read e)) = faults.items ≡ e.faults
+IsToldOf (told.Unread fault) (Ok (Unread given)) = fault ≡ given
+IsToldOf (told.Refused refusal) (Err given) = refusal ≡ given
+IsToldOf _ _ = ⊥
+
+abbrev pub WasTold : Option Told → Result Reply Refusal → Type 0
+WasTold (Some t) given = IsToldOf t given
+WasTold None given = ⊥
+
+-- ---- what the client is sent for a text
+
+-- a message for a text: its diagnostics, by what its session gives; none for a text that the client
+-- did not change, where it was told the same before, and only then
+abbrev pub Sends : (is_own : Bool) → (old new : OpenText) → Result Reply Refusal → Option Data
+    → Type 0
+Sends is_own old new given (Some message) = (is_own ≡ false → WasTold old.told given → ⊥)
+    × (message ≡ publication (string_bytes new.uri) new.version
+    (diagnostics_of new.session.text given))
+Sends is_own old new given None = (is_own ≡ false) × (new.told ≡ old.told)
+
+-- a text's diagnostics are told: another text is in its place, which is noted to be told of what
+-- its session gives. The last text that could be read is kept, unless this one can be
+pub record IsTold (is_own : Bool) (old new : OpenText) (message : Option Data) : Type 0 where
   pub given : Result Reply Refusal
-  pub is_given : IsGiven t.session given
-  pub is_read : t.is_read ≡ is_expansion given
-  pub is : message ≡ publication (string_bytes t.uri) t.version
-      (diagnostics_of t.session.text given)
+  pub is_given : IsGiven new.session given
+  pub told : WasTold new.told given
+  pub is_read : new.is_read ≡ is_expansion given
+  pub same : document_of new ≡ document_of old
+  pub prelude : new.session.prelude ≡ old.session.prelude
+  pub keeps : earlier_of new ≡ (if new.is_read then None else earlier_of old)
+  pub sends : Sends is_own old new given message
 
--- what a client is sent for a text
-abbrev pub IsTold : Shown → OpenText → Option Data → Type 0
-IsTold which.All t (Some message) = Publishes t message
-IsTold which.All t None = ⊥
-IsTold which.Nothing t message = (message ≡ None) × (t.is_read ≡ false)
+-- what a client is sent for a text, if it is sent diagnostics at all
+abbrev pub IsToldBy : Shown → (is_own : Bool) → (old new : OpenText) → Option Data → Type 0
+IsToldBy which.All is_own old new message = IsTold is_own old new message
+IsToldBy which.Nothing is_own old new message = (new ≡ old) × (message ≡ None)
 
--- what a client is sent for a text that it opened: nothing is kept of it before
-abbrev pub IsOpened : Shown → List ℕ → List OpenText → Option Data → Type 0
-IsOpened shown uri texts message = (t : OpenText) × Contains texts t × (is_named uri t ≡ true)
-    × (earlier_of t ≡ None) × IsTold shown t message
+-- what may be given to a text of a name: the definitions of other texts, in order
+abbrev pub Gives : Type 1
+Gives = (uri : List ℕ) → (prelude : List Forest) → Type 0
 
--- the last text that could be read is kept where one text becomes another, unless that can be read
-abbrev pub Keeps : (old new : OpenText) → Type 0
-Keeps old new = earlier_of new ≡ (if new.is_read then None else kept_of old)
+-- a text's session has definitions anew, if they may be others than before
+abbrev pub IsOver : Gives → (changed : Bool) → (old new : OpenText) → Type 0
+IsOver gives true old new = (prelude : List Forest) × gives (string_bytes old.uri) prelude
+    × (new ≡ record old { session = record old.session { prelude = prelude } })
+IsOver gives false old new = new ≡ old
 
--- what a client is sent where the first text of a name is edited: another one is in its place, and
--- the last text that could be read is kept
-pub record IsEdited (shown : Shown) (uri : List ℕ) (old new : List OpenText)
-    (message : Option Data) : Type 0 where
+-- what becomes of a text, and what the client is sent for it: nothing where neither the client
+-- changed it nor definitions changed
+abbrev pub IsRefreshed : Gives → Shown → (is_own changed : Bool) → (old new : OpenText)
+    → Option Data → Type 0
+IsRefreshed gives shown false false old new message = (new ≡ old) × (message ≡ None)
+IsRefreshed gives shown is_own changed old new message =
+    (over : OpenText) × IsOver gives changed old over × IsToldBy shown is_own over new message
+
+-- this comes of each text, where the client told of the text of this name
+abbrev pub Comes : Gives → Shown → (uri : List ℕ) → (changed : Bool) → (old new : OpenText)
+    → Option Data → Type 0
+Comes gives shown uri changed old new message =
+    IsRefreshed gives shown (is_named uri old) changed old new message
+
+-- ---- what the client is sent for all texts
+
+-- in order, this comes of each text, and these messages go; or there was no memory for the text,
+-- which is no longer followed, and the user is told
+abbrev pub Each : (OpenText → OpenText → Option Data → Type 0) → (old new : List OpenText)
+    → List Data → Type 0
+Each Comes [] new messages = (new ≡ []) × (messages ≡ [])
+Each Comes (t ∷ ts) new messages =
+    ((u : OpenText) × (rest : List OpenText) × (message : Option Data) × (more : List Data)
+    × (new ≡ u ∷ rest) × (messages ≡ listed message ++ more) × Comes t u message
+    × Each Comes ts rest more)
+    ⊎ ((message : Data) × (more : List Data) × (messages ≡ message ∷ more) × IsShown message
+    × Each Comes ts new more)
+
+-- the texts but for the first of this name
+abbrev pub IsWithout : List ℕ → (old new : List OpenText) → Type 0
+IsWithout uri old new = ((i : ℕ) × IsFirst uri old i × (new ≡ take i old ++ drop (i + 1) old))
+    ⊎ (HaveNone uri old × (new ≡ old))
+
+-- a text that the client opens, of which nothing was told
+pub record IsOpened (gives : Gives) (d : Document) (t : OpenText) : Type 0 where
+  pub document : document_of t ≡ d
+  pub earlier : earlier_of t ≡ None
+  pub unread : t.is_read ≡ false
+  pub untold : t.told ≡ None
+  pub prelude : gives d.uri t.session.prelude
+
+-- the first text of a name is edited: another one is in its place, and the last text that could be
+-- read is kept
+pub record IsEdited (uri : List ℕ) (version : ℤ) (changes : List Change) (old new : List OpenText)
+    : Type 0 where
   pub i : ℕ
   pub first : IsFirst uri old i
   pub text : OpenText
   pub placed : new ≡ take i old ++ text ∷ drop (i + 1) old
-  pub keeps : Keeps first.text text
-  pub told : IsTold shown text message
+  pub document : document_of text ≡ after_edit version changes (document_of first.text)
+  pub kept : earlier_of text ≡ kept_of first.text
+  pub unread : text.is_read ≡ false
+  pub prelude : text.session.prelude ≡ first.text.session.prelude
 
 -- the user is shown that a text is no longer followed
 abbrev pub IsLost : Option Data → Type 0
 IsLost (Some message) = IsShown message
 IsLost None = ⊥
 
--- what a client is sent after an edit of the text of this name: nothing where that was not open
-abbrev pub IsToldIfOpen : Shown → List ℕ → (old new : List OpenText) → Option Data → Type 0
-IsToldIfOpen shown uri old new message =
-    IsEdited shown uri old new message ⊎ (HaveNone uri old × (message ≡ None))
+-- what a client tells is done, before diagnostics are told: a text is opened or edited, if there is
+-- one; or there was no memory for that. For one that is closed goes that it has no diagnostics
+abbrev pub Starts : Gives → Note → (old new : List OpenText) → Option Data → Type 0
+Starts gives (opened uri version text) old new message =
+    ((rest : List OpenText) × (t : OpenText) × IsWithout uri old rest × (new ≡ rest ++ t ∷ [])
+    × IsOpened gives (record { uri = uri; version = version; text = text }) t × (message ≡ None))
+    ⊎ (IsWithout uri old new × IsLost message)
+Starts gives (edited uri version changes) old new message =
+    (IsEdited uri version changes old new × (message ≡ None))
+    ⊎ ((HaveNone uri old × (new ≡ old) × (message ≡ None))
+    ⊎ (IsWithout uri old new × IsLost message))
+Starts gives (closed uri) old new message =
+    IsWithout uri old new × (message ≡ Some (withdrawal uri))
 
--- what a client is sent after what it tells: for a text that it opened or edited, and that is open,
--- what goes for that; for one that it edited and that was not open, nothing; for one that it closed,
--- that it has no diagnostics
-abbrev pub Tells : Shown → Note → (old new : List OpenText) → Option Data → Type 0
-Tells shown (opened uri version text) old new message =
-    IsOpened shown uri new message ⊎ IsLost message
-Tells shown (edited uri version changes) old new message =
-    IsToldIfOpen shown uri old new message ⊎ IsLost message
-Tells shown (closed uri) old new message = message ≡ Some (withdrawal uri)
+-- what a client is sent after what it tells, where texts are given these definitions before and
+-- those after
+pub record Tells (before after : Gives) (shown : Shown) (note : Note) (old new : List OpenText)
+    (messages : List Data) : Type 0 where
+  pub first : Option Data
+  pub between : List OpenText
+  pub starts : Starts before note old between first
+  -- whether definitions may be others than before
+  pub changed : Bool
+  pub unchanged : changed ≡ false → (uri : List ℕ) (prelude : List Forest) → before uri prelude
+      → after uri prelude
+  pub more : List Data
+  pub each : Each (Comes after shown (name_of note) changed) between new more
+  pub all : messages ≡ listed first ++ more
+
+-- ---- what holds of each open text
+
+-- the client was told of a text what its session gives, if it is sent diagnostics at all
+abbrev pub IsToldNow : Shown → OpenText → Type 0
+IsToldNow which.All t = (given : Result Reply Refusal) × IsGiven t.session given
+    × WasTold t.told given
+IsToldNow which.Nothing t = ⊤
+
+-- a text has the definitions that it is given, and the client was told what it gives
+pub record IsSettled (gives : Gives) (shown : Shown) (t : OpenText) : Type 0 where
+  pub prelude : gives (string_bytes t.uri) t.session.prelude
+  pub told : IsToldNow shown t

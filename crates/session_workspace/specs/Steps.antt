@@ -8,10 +8,10 @@ use Rattle.any_grammar.specs.declared.chosen.AnyGrammar.{AnyGrammar}
 use Rattle.bridge.specs.ReadText.{HasTooMany}
 use Rattle.bridge.specs.TokenSteps.{text_reading, text_steps}
 use Rattle.expander_session.specs.State.{State, definitions_of}
-use Rattle.expander_trace.specs.Steps.{rewrites}
 use Rattle.line_index.specs.declared.positions.Position.{Position}
 use Rattle.step_report.specs.Answers.{IsAnswerTo, traces_in}
 use Rattle.step_report.specs.Bound.{context_by}
+use Rattle.step_report.specs.Steps.{rewrites}
 use Rattle.step_report.specs.Texts.{Named}
 use Rattle.step_report.specs.declared.answer.Answer.{Answer}
 use Rattle.step_report.specs.declared.answer.Answer.TheVariants.{Unread, Told}

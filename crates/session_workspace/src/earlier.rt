@@ -11,8 +11,9 @@ use line_index::Position;
 use pieced_text::PiecedText;
 use std::alloc::{AllocError, Global};
 
-// The byte of an earlier text that one of a newer text comes from.
-fn byte_before(old: &str, new: &str, at: usize) -> Option<usize>
+/// The byte of an earlier text that one of a newer text comes from: the same where all before it is
+/// the same in both, else as far from the end where all from it on is. `None` in what was replaced.
+pub fn byte_before(old: &str, new: &str, at: usize) -> Option<usize>
     requires { at ≤ length new.now }
     ensures is { result ≡ byte_before old.now new.now at }
     ensures within { IfSome result (λ byte. byte ≤ length old.now) }

@@ -16,8 +16,10 @@ mod ranges;
 mod serving;
 mod setup;
 mod steps;
+mod told;
 mod workspace;
 
+pub use earlier::byte_before;
 pub use serving::{end_words, serve_texts};
-pub use setup::Setup;
+pub use setup::{Elsewhere, Setup};
 pub use workspace::{SessionWorkspace, Shown};

@@ -8,6 +8,7 @@ use expander_scope::refusal::Refusal;
 use rpc_messages::notification;
 use serde_json::{Value, json};
 use std::alloc::{AllocError, AllocFailed, Global};
+use tt_data::TtFault;
 
 /// Why a text is no longer followed.
 #[derive(Clone, Copy, Debug, PartialEq, Eq)]
@@ -21,6 +22,12 @@ pub(crate) enum Lost {
 impl From<Refusal> for Lost {
     fn from(refusal: Refusal) -> Lost {
         Lost::Refused(refusal)
+    }
+}
+
+impl From<TtFault> for Lost {
+    fn from(fault: TtFault) -> Lost {
+        Lost::Refused(Refusal::from(fault))
     }
 }
 

@@ -1,13 +1,16 @@
 //! A text that a client has open.
-ghost use Rattle.std.specs.Prelude.{◌≡◌, IfOk, None, OnOk, false, if◌then◌else◌, map};
+ghost use Rattle.std.specs.Prelude.{◌≡◌, IfOk, None, OnOk, false, if◌then◌else◌, map, option_map};
+ghost use Rattle.std.specs.Prelude.{MatchBool, string_bytes};
 ghost use Rattle.serde_json.specs.View.{view};
 ghost use Rattle.client_texts.specs.Texts.{after_changes, after_edit};
 ghost use Rattle.client_texts.specs.Views.{change_view};
-ghost use Rattle.session_workspace.specs.OpenTexts.{Publishes, document_of, earlier_of};
+ghost use Rattle.session_workspace.specs.Diagnostics.{diagnostics_of, publication};
+ghost use Rattle.session_workspace.specs.OpenTexts.{IsTold, WasTold, document_of, earlier_of};
 ghost use Rattle.session_workspace.specs.OpenTexts.{is_expansion, kept_of};
 
 use crate::diagnostics::{diagnostics_of, publication};
 use crate::lost::Lost;
+use crate::told::{Told, is_told_of, told_of};
 use any_grammar::AnyGrammar;
 use client_texts::{Change, edit_of};
 use expander_scope::refusal::Refusal;
@@ -26,6 +29,8 @@ pub(crate) struct OpenText {
     pub(crate) is_read: bool,
     /// The last text before it that could be read, if there is one and it cannot be.
     pub(crate) earlier: Option<String>,
+    /// What the client was told of it last. `None` before the first time.
+    pub(crate) told: Option<Told>,
 }
 
 // Whether a session's text could be read.
@@ -40,8 +45,9 @@ fn is_expansion(given: &Result<Reply, Refusal>) -> bool
 
 // Changes the text of a session. If that is refused, some changes may have been made.
 fn change(session: &mut Session<AnyGrammar>, changes: &[Change<'_>]) -> Result<(), Lost>
-    ensures { OnOk result (session.new.text
+    ensures text { OnOk result (session.new.text
         ≡ after_changes (map change_view changes.now) session.old.text) }
+    ensures prelude { session.new.prelude ≡ session.old.prelude }
 {
     for change in changes {
         let edit = edit_of(change, session.text());
@@ -81,6 +87,7 @@ impl OpenText {
             ≡ after_edit version (map change_view changes.now) (document_of self.old)) }
         ensures kept { OnOk result (earlier_of self.new ≡ kept_of self.old) }
         ensures unread { OnOk result (self.new.is_read ≡ false) }
+        ensures prelude { self.new.session.prelude ≡ self.old.session.prelude }
     {
         self.keep(alloc)?;
         change(&mut self.session, changes)?;
@@ -94,6 +101,7 @@ impl OpenText {
         ensures earlier { earlier_of self.new
             ≡ (if is_read then None else earlier_of self.old) }
         ensures session { self.new.session ≡ self.old.session }
+        ensures told { self.new.told ≡ self.old.told }
         ensures same { document_of self.new ≡ document_of self.old }
     {
         self.is_read = is_read;
@@ -102,21 +110,43 @@ impl OpenText {
         }
     }
 
-    /// The notification of the text's diagnostics.
-    pub(crate) fn publication(&mut self, alloc: Global) -> Result<Value, Lost>
-        ensures published { IfOk result (λ v. Publishes self.new (view v)) }
-        ensures earlier { earlier_of self.new
-            ≡ (if self.new.is_read then None else earlier_of self.old) }
-        ensures same { document_of self.new ≡ document_of self.old }
+    // Whether the client was told of it what its session gives here.
+    fn was_told(&self, given: &Result<Reply, Refusal>) -> bool
+        ensures { MatchBool result (WasTold self.now.told given.now)
+            (WasTold self.now.told given.now → ⊥) }
     {
-        let given = self.session.expansion();
-        self.note(is_expansion(&given));
+        match &self.told {
+            Some(told) => is_told_of(told, given),
+            None => false,
+        }
+    }
+
+    // The notification of the diagnostics of the text, whose session gives this.
+    fn publication(&self, alloc: Global, given: &Result<Reply, Refusal>) -> Result<Value, Lost>
+        ensures { IfOk result (λ v. view v ≡ publication (string_bytes self.now.uri)
+            self.now.version (diagnostics_of self.now.session.text given.now)) }
+    {
         let text = self.session.text();
         if text.len() > u32::MAX as usize {
             return Err(Lost::TooLong);
         }
-        let diagnostics = diagnostics_of(alloc, text, &given)?;
+        let diagnostics = diagnostics_of(alloc, text, given)?;
         let message = publication(alloc, self.uri.as_str(), self.version, diagnostics)?;
         Ok(message)
+    }
+
+    /// The notification of the text's diagnostics. `None` for a text that the client did not change,
+    /// where it was told the same last, and only then.
+    pub(crate) fn tell(&mut self, alloc: Global, is_own: bool) -> Result<Option<Value>, Lost>
+        ensures { IfOk result (λ m. IsTold is_own self.old self.new (option_map view m)) }
+    {
+        let given = self.session.expansion();
+        self.note(is_expansion(&given));
+        if !is_own && self.was_told(&given) {
+            return Ok(None);
+        }
+        let message = self.publication(alloc, &given)?;
+        self.told = Some(told_of(alloc, &given)?);
+        Ok(Some(message))
     }
 }

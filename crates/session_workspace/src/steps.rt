@@ -8,11 +8,10 @@ ghost use Rattle.session_workspace.specs.Steps.{line_data, question_at, values_d
 use crate::calls::{byte_at, options_of};
 use any_grammar::AnyGrammar;
 use expander_session::session::Session;
-use expander_trace::limits::Limits;
 use line_index::Position;
 use serde_json::Value;
 use std::alloc::{AllocError, Global};
-use step_report::{Answer, Asked, Form, Question, Texts, answer_to};
+use step_report::{Answer, Asked, Form, Limits, Question, Texts, answer_to};
 use tt_data::TtFault;
 
 // How many steps are told of where no number is asked for.

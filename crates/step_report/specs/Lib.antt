@@ -1,3 +1,5 @@
+-- steps
+pub use Rattle.expander_trace.specs.Steps
 -- lines that tell of steps
 pub mod Positions
 pub mod Texts
