@@ -21,7 +21,7 @@ use Rattle.expander_model.specs.declared.scope_rules.Standing.TheVariants.{Top}
 use Rattle.expander_model.proofs.DefinitionPlaceLemmas.{definition_with-same}
 use Rattle.expander_scope.specs.ScopeTable.{expanded_under, scope_in}
 use Rattle.expander_scope.specs.declared.scope.Scope as table
-use Rattle.textual_scope.proofs.BoundedLemmas.{outermost-with}
+use Rattle.expander_scope.proofs.BoundedLemmas.{outermost-with}
 use Rattle.call_expansion.specs.InScope.{HasInScope, met_alone}
 
 -- ---- no span changes

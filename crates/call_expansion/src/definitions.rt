@@ -5,7 +5,7 @@ ghost use Rattle.expander_model.specs.Meaning.{definitions_after, with_definitio
 ghost use Rattle.expander_scope.specs.Editions.{IsRead};
 ghost use Rattle.expander_scope.specs.Outcomes.{numbered_of_known};
 ghost use Rattle.expander_scope.specs.ScopeTable.{AreRead};
-ghost use Rattle.expander_sources.specs.Imports.{import_piece};
+ghost use Rattle.pieced_text.specs.expander_sources.Imports.{import_piece};
 ghost use Rattle.tt_data.specs.fault.TtFault.TheVariants.{Memory};
 ghost use Rattle.call_expansion.specs.InScope.{HasInScope};
 
@@ -17,8 +17,8 @@ use expander_model::left_out::is_out;
 use expander_model::scope_rules::Standing;
 use expander_scope::macro_def::MacroDef;
 use expander_scope::scope::Scope;
-use expander_sources::import::Import;
-use expander_sources::prelude::{Prelude, imports_of};
+use pieced_text::expander_sources::import::Import;
+use pieced_text::expander_sources::prelude::{Prelude, imports_of};
 use std::alloc::Global;
 use std::rc::Rc;
 use tt::{TopSubtree, TtIter};

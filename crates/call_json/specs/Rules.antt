@@ -12,7 +12,7 @@ use Rattle.mbe_explain.specs.declared.explain.StopKind.TheVariants as stops
 use Rattle.mbe_explain.specs.declared.rules.RuleStop.{RuleStop}
 use Rattle.mbe_explain.specs.declared.wanted.Wanted.{Wanted}
 use Rattle.mbe_explain.specs.declared.wanted.Wanted.TheVariants as wants
-use Rattle.expander_model.specs.declared.call.Call.{Call}
+use Rattle.call_messages.specs.expander_model.declared.call.Call.{Call}
 use Rattle.call_messages.specs.Places.{wanted_range}
 use Rattle.call_messages.specs.Units.{stop_range}
 use Rattle.call_json.specs.Places.{count, place}

@@ -3,8 +3,8 @@ use Rattle.std.specs.Prelude.{List}
 use Rattle.tt_data.specs.Forest.{Forest}
 use Rattle.mbe_rules.specs.Items.{Rule}
 use Rattle.mbe_rules.specs.declared.macro_call_style.MacroCallStyle.TheVariants.{FnLike}
-use Rattle.mbe.specs.Grammar.{Grammar}
-use Rattle.mbe_transcriber.specs.Markers.{is_name}
+use Rattle.mbe_explain.specs.mbe.Grammar.{Grammar}
+use Rattle.mbe_explain.specs.mbe.mbe_transcriber.Markers.{is_name}
 use Rattle.mbe_explain.specs.Rules.{AreTold, IsNearest, of_style}
 use Rattle.mbe_explain.specs.declared.rules.Explanation.{Explanation}
 

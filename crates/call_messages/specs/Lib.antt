@@ -7,3 +7,5 @@ pub mod Unfits
 pub mod Knowns
 pub mod Units
 pub mod Places
+-- what crates above name too of those below
+pub use Rattle.expander_model.specs as expander_model

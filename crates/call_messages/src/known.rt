@@ -1,13 +1,13 @@
 //! The definition that is taken for a call of a text, and how its rules take the argument.
 ghost use Rattle.std.specs.Prelude.{◌≡◌, IfOk, IfSome, None};
-ghost use Rattle.mbe.specs.Macros.{rules_of};
+ghost use Rattle.mbe_explain.specs.mbe.Macros.{rules_of};
 ghost use Rattle.call_messages.specs.Knowns.{IsExplained};
 
 use crate::search::{call_of, definition_before};
 use bumpalo::Bump;
 use expander_model::call::Call;
 use expander_model::definition::Definition;
-use mbe::{DeclarativeMacro, FragmentGrammar, MacroCallStyle};
+use mbe_explain::mbe::{DeclarativeMacro, FragmentGrammar, MacroCallStyle};
 use mbe_explain::{Explanation, explain_call};
 use std::alloc::Global;
 use tt::{TopSubtree, TtIter};

@@ -11,6 +11,7 @@ mod unfit;
 mod units;
 mod words;
 
+pub use expander_model;
 pub use known::{Known, explain_known, known_at};
 pub use marks::wanted_range;
 pub use plain::push_plain;

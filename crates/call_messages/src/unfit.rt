@@ -12,7 +12,7 @@ use crate::units::stop_range;
 use bumpalo::Bump;
 use expander_model::call::Call;
 use expander_model::definition::Definition;
-use mbe::FragmentGrammar;
+use mbe_explain::mbe::FragmentGrammar;
 use mbe_explain::{Explanation, RuleStop, StopKind};
 use source_snippet::{Section, column_in, line_at, line_number, push_message};
 use std::alloc::{AllocError, Global};

@@ -5,7 +5,7 @@ use Rattle.tt_data.specs.Forest.{Forest, empty, leaf, group}
 use Rattle.tt_data.specs.Literals.{LiteralParts}
 use Rattle.tt_data.specs.declared.leaf.Ident.{Ident}
 use Rattle.tt_data.specs.declared.leaf.Leaf.TheVariants as as_leaf
-use Rattle.tt.specs.FirstTrees.{first_ident}
+use Rattle.bridge.specs.tt.FirstTrees.{first_ident}
 use Rattle.bridge.specs.Text.{is_char}
 use Rattle.small_grammar.specs.Text.{◌>>=◌, ◌>>◌}
 use Rattle.cfg_options.specs.Conditions.{is_option_name, option_in}

@@ -8,7 +8,7 @@ use Rattle.tt_data.specs.Literals.{LiteralParts}
 use Rattle.tt_data.specs.declared.delimiter.DelimiterKind.TheVariants.{Parenthesis, Bracket}
 use Rattle.tt_data.specs.declared.leaf.Ident.{Ident}
 use Rattle.tt_data.specs.declared.leaf.Leaf.TheVariants as as_leaf
-use Rattle.tt.specs.FirstTrees.{first_group, first_ident, first_punct}
+use Rattle.bridge.specs.tt.FirstTrees.{first_group, first_ident, first_punct}
 use Rattle.bridge.specs.Text.{is_char, is_punct, same_kind}
 use Rattle.small_grammar.specs.Text.{is_word, is_empty, is_raw_name, same_text, ◌>>=◌, ◌>>◌}
 use Rattle.small_grammar.specs.Tokens.{is_among, path_words, reserved, words}

@@ -10,3 +10,5 @@ pub mod Parts
 pub mod OpenLists
 pub mod Attributes
 pub mod StringSteps
+-- what crates above name too of those below
+pub use Rattle.small_grammar.specs as small_grammar

@@ -3,7 +3,7 @@ use Rattle.std.specs.Prelude.{Bool, false, Option, Some, None, unwrap_or}
 use Rattle.tt_data.specs.Forest.{Forest, empty, leaf, group}
 use Rattle.tt_data.specs.Literals.{LiteralParts}
 use Rattle.tt_data.specs.declared.leaf.Leaf.TheVariants as as_leaf
-use Rattle.tt.specs.FirstTrees.{first_punct}
+use Rattle.bridge.specs.tt.FirstTrees.{first_punct}
 use Rattle.bridge.specs.Text.{is_char}
 use Rattle.small_grammar.specs.Text.{◌>>=◌, ◌>>◌}
 

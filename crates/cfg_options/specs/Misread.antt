@@ -9,7 +9,7 @@ use Rattle.tt_data.specs.declared.leaf.Leaf.TheVariants as as_leaf
 use Rattle.tt_data.specs.declared.span.Span.{Span}
 use Rattle.bridge.specs.Text.{is_char, is_punct, same_kind}
 use Rattle.small_grammar.specs.Text.{same_text, ◌>>=◌, ◌>>◌}
-use Rattle.tt.specs.FirstTrees.{first_ident}
+use Rattle.bridge.specs.tt.FirstTrees.{first_ident}
 use Rattle.cfg_options.specs.Conditions.{or_else}
 use Rattle.cfg_options.specs.Conditions.{Options, listed, predicate_value}
 

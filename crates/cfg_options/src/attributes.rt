@@ -13,8 +13,8 @@ ghost use Rattle.cfg_options.specs.declared.options.CfgOptions.{CfgOptions};
 
 use crate::options::CfgOptions;
 use crate::parts::{list_behind, split_part};
+use bridge::tt::TtIter;
 use std::alloc::AllocError;
-use tt::TtIter;
 use tt_data::{DelimiterKind, Span};
 
 /// What is found out about attributes.

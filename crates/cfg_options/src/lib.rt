@@ -16,4 +16,5 @@ pub use attributes::first_attribute;
 pub use fault::CfgFault;
 pub use options::CfgOptions;
 pub use parts::split_part;
+pub use small_grammar;
 pub use strings::string_text;

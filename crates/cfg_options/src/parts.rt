@@ -4,7 +4,7 @@ ghost use Rattle.cfg_options.specs.Lists.{after_tree, begins_with_comma};
 ghost use Rattle.cfg_options.specs.Conditions.{after_part, first_part};
 ghost use Rattle.cfg_options.specs.Conditions.{after_name, list_behind, parenthesized};
 
-use tt::TtIter;
+use bridge::tt::TtIter;
 use tt_data::DelimiterKind;
 
 // Whether the trees begin with a comma.

@@ -7,8 +7,8 @@ ghost use Rattle.cfg_options.specs.Strings.{string_text};
 
 use crate::attributes::found_before;
 use crate::options::CfgOptions;
+use bridge::tt::TtIter;
 use std::alloc::AllocError;
-use tt::TtIter;
 use tt_data::Span;
 
 impl CfgOptions {

@@ -10,8 +10,8 @@ ghost use Rattle.cfg_options.specs.Strings.{string_text};
 
 use crate::options::CfgOptions;
 use crate::parts::{list_behind, split_part};
+use bridge::tt::TtIter;
 use std::alloc::AllocError;
-use tt::TtIter;
 
 /// What the values of a list so far give.
 #[derive(Clone, Copy)]

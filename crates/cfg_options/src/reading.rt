@@ -9,7 +9,7 @@ use crate::fault::CfgFault;
 use crate::options::{CfgOption, CfgOptions};
 use crate::words::option_in;
 use bridge::Read;
-use rustc_lexer::LexedText;
+use bridge::rustc_lexer::LexedText;
 use std::alloc::Global;
 use tt_data::TtFault;
 

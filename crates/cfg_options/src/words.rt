@@ -10,9 +10,9 @@ ghost use Rattle.cfg_options.specs.Strings.{string_text};
 
 use crate::options::{CfgOption, CfgOptions};
 use crate::strings::string_text;
+use bridge::tt::TtIter;
 use small_grammar::names::{has_text, is_path_word, is_raw_name, is_reserved};
 use std::alloc::{AllocError, Global};
-use tt::TtIter;
 use tt_data::{IdentRef, LeafRef, LiteralRef};
 
 // Whether later editions reserved this word.

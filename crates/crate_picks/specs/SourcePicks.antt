@@ -4,7 +4,7 @@ use Rattle.tt_data.specs.Forest.{Forest}
 use Rattle.expander_sources.specs.Homes.{Home}
 use Rattle.expander_sources.specs.Picks.{picked, rooted_picks}
 use Rattle.expander_sources.specs.Sources.{Item, Source}
-use Rattle.expander_model.specs.Definitions.{has_attribute}
+use Rattle.expander_sources.specs.expander_model.Definitions.{has_attribute}
 
 -- a definition is in no inline module, and the compiler does not have it built in
 abbrev pub is_open : Item → Bool

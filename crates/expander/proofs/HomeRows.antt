@@ -14,9 +14,9 @@ use Rattle.tt_data.specs.declared.edition.Edition.TheVariants.{Edition2021}
 use Rattle.expander_model.specs.Meaning.{definitions_after, meaning_in}
 use Rattle.expander_model.specs.declared.fault.FaultKind.TheVariants.{CannotExpand}
 use Rattle.expander_run.specs.Runs.{run_layers}
-use Rattle.expander_sources.specs.Homes.{Home}
-use Rattle.expander_sources.specs.Picks.{picked, rooted_picks}
-use Rattle.expander_sources.specs.Sources.{Item, source_items}
+use Rattle.expander_session.specs.expander_sources.Homes.{Home}
+use Rattle.expander_session.specs.expander_sources.Picks.{picked, rooted_picks}
+use Rattle.expander_session.specs.expander_sources.Sources.{Item, source_items}
 use Rattle.expander.proofs.Rows.{Shown, fault, gives, lines, shown}
 
 abbrev items_in : ℕ → Result Forest ReadFault → List Item

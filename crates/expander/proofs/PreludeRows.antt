@@ -13,7 +13,7 @@ use Rattle.bridge.specs.declared.reading.outcome.ReadFault.{ReadFault}
 use Rattle.tt_data.specs.declared.span.TextRange.{TextRange}
 use Rattle.expander_model.specs.Definitions.{Definition}
 use Rattle.expander_model.specs.Meaning.{ReadMeaning, definitions_after, meaning_in}
-use Rattle.expander_sources.specs.Sources.{source_pieces}
+use Rattle.expander_session.specs.expander_sources.Sources.{source_pieces}
 use Rattle.expander_model.specs.declared.fault.FaultKind.TheVariants.{BrokenDefinition, CannotExpand}
 use Rattle.expander_run.specs.Runs.{run_layers}
 use Rattle.expander.proofs.Rows.{Shown, fault, gives, lines, shown}

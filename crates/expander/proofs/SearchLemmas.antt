@@ -27,12 +27,12 @@ use Rattle.expander_model.specs.Pieces.{cut, put_together}
 use Rattle.expander_model.specs.Scoping.{found_in, Scoped}
 use Rattle.expander_model.specs.Limits.{expanded}
 use Rattle.expander_model.specs.declared.scope_rules.ScopeRules.TheVariants.{TopLevel, Rust}
-use Rattle.textual_scope.specs.Keywords.{HasNoKeyword}
+use Rattle.expander_scope.specs.textual_scope.Keywords.{HasNoKeyword}
 use Rattle.expander_model.proofs.SplittingLemmas.{put_together-cut}
 use Rattle.expander_scope.proofs.MarkLemmas.{unmarked-marked}
 use Rattle.expander_scope.proofs.TurnLemmas.{known_search}
 use Rattle.expander_session.proofs.WordLemmas.{is_quiet, quiet_cut}
-use Rattle.textual_scope.proofs.RuleLemmas.{unfound_outermost}
+use Rattle.expander_scope.proofs.RuleLemmas.{unfound_outermost}
 
 -- ---- a failed call
 

@@ -28,8 +28,8 @@ pub use Rattle.expander_model.specs.Changes
 pub use Rattle.expander_model.specs.OtherPlaces
 pub use Rattle.expander_model.specs.DefinitionTrees
 pub use Rattle.expander_scope.specs.NewNumbers
-pub use Rattle.textual_scope.specs.TopLevelMeaning
-pub use Rattle.textual_scope.specs.Keywords
+pub use Rattle.expander_scope.specs.textual_scope.TopLevelMeaning
+pub use Rattle.expander_scope.specs.textual_scope.Keywords
 -- what laws alone rest on
 pub mod PieceTokens
 pub mod FixedPoint
@@ -37,3 +37,5 @@ pub mod PieceTrees
 pub mod SessionCalls
 -- which options words set
 pub mod NamedOptions
+-- what crates above name too of those below
+pub use Rattle.expander_run.specs as expander_run

@@ -76,12 +76,12 @@ use expander_model::fault::{Fault, FaultKind};
 pub use expander_model::laws::equal_pieces;
 use expander_run::program::Status;
 use expander_scope::refusal::Refusal;
-pub use expander_session::laws::definitions_are_no_more_than_bytes;
-use fragment_grammar::FragmentGrammar;
-pub use textual_scope::laws::{
+pub use expander_scope::textual_scope::laws::{
     expansions_depend_on_outer_lookups_alone, top_level_scope_is_as_before,
     without_keywords_both_rules_agree,
 };
+pub use expander_session::laws::definitions_are_no_more_than_bytes;
+use fragment_grammar::FragmentGrammar;
 
 /// Marking the calls of a forest changes nothing else: the marks taken off give the forest back.
 pub fn marks_taken_off()

@@ -6,7 +6,7 @@ use Rattle.tt_data.specs.declared.delimiter.DelimiterKind.TheVariants.{Bracket}
 use Rattle.tt_data.specs.declared.leaf.Leaf.TheVariants as as_leaf
 use Rattle.cfg_options.specs.Conditions.{first_attribute}
 use Rattle.expander_model.specs.Definitions.{after_attribute, after_attributes, after_word, has_attribute}
-use Rattle.small_grammar.specs.Text.{◌>>◌}
+use Rattle.cfg_options.specs.small_grammar.Text.{◌>>◌}
 use Rattle.bridge.specs.Text.{is_char, same_kind}
 
 some_is : (b c : Bool) (rest f g : Forest) → (b >> (c >> Some rest)) ≡ Some g → (if b && c then after_attributes rest else f) ≡ after_attributes g

@@ -3,7 +3,7 @@ use Rattle.std.proofs.Common.{◌≡◌, Bool, true, false, ◌&&◌, refl, sym,
 use Rattle.std.specs.Prelude.{Option, Some, None, not}
 use Rattle.std.proofs.lemmas.Bool.Decides.{nat_tests}
 use Rattle.bridge.specs.Text.{is_char}
-use Rattle.small_grammar.specs.Text.{◌>>◌}
+use Rattle.cfg_options.specs.small_grammar.Text.{◌>>◌}
 use Rattle.tt.specs.FirstTrees.{first_punct}
 use Rattle.tt.specs.Glued.{is_alone}
 use Rattle.tt_data.specs.Forest.{Forest, empty, leaf, group}

@@ -16,7 +16,7 @@ use Rattle.tt_data.specs.declared.leaf.Leaf.TheVariants as as_leaf
 use Rattle.tt_data.specs.declared.leaf.Punct.{Punct}
 use Rattle.tt_data.specs.declared.span.Span.{Span}
 use Rattle.bridge.specs.Text.{is_char, is_punct, is_visible, same_kind}
-use Rattle.small_grammar.specs.Text.{is_empty, same_text, ◌>>=◌, ◌>>◌}
+use Rattle.cfg_options.specs.small_grammar.Text.{is_empty, same_text, ◌>>=◌, ◌>>◌}
 use Rattle.cfg_options.specs.Conditions.{Options, after_name, attribute_keeps, cfg_attr_keeps}
 use Rattle.cfg_options.specs.Conditions.{cfg_keeps, constant, cut_at_commas, each_value, is_kept}
 use Rattle.cfg_options.specs.Conditions.{is_option_name, list_behind, listed, listed_values}

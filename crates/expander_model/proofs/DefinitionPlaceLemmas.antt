@@ -14,7 +14,7 @@ use Rattle.bridge.specs.Text.{same_kind, is_char}
 use Rattle.expander_model.specs.Definitions.{Definition, after_attributes, after_macro_rules, after_parenthesis, after_pub, after_word, is_semicolon, ends_definition, macro_rules_of, macro_body, macro_of, definition_of}
 use Rattle.cfg_options.specs.Conditions.{or_else}
 use Rattle.expander_model.specs.OtherPlaces.{definition_with}
-use Rattle.small_grammar.specs.Text.{has_text, ◌>>=◌, ◌>>◌, is_empty}
+use Rattle.cfg_options.specs.small_grammar.Text.{has_text, ◌>>=◌, ◌>>◌, is_empty}
 
 -- no change
 pub definition_with-same : (d : Definition) → definition_with (λ s. s) d ≡ d

@@ -5,7 +5,7 @@ use Rattle.tt_data.specs.declared.leaf.Ident.{Ident}
 use Rattle.expander_model.specs.declared.call.Call.{Call}
 use Rattle.expander_model.specs.Calls.{other, Marked, call, unmarked, is_colons, is_foreign, is_root, key_behind}
 use Rattle.cfg_options.specs.Conditions.{or_else}
-use Rattle.small_grammar.specs.Text.{◌>>=◌, ◌>>◌}
+use Rattle.cfg_options.specs.small_grammar.Text.{◌>>=◌, ◌>>◌}
 use Rattle.tt.specs.FirstTrees.{first_ident, first_punct, first_group}
 use Rattle.bridge.specs.Text.{is_char, is_visible}
 

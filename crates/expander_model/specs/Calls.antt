@@ -10,7 +10,7 @@ use Rattle.tt_data.specs.declared.leaf.Punct.{Punct}
 use Rattle.tt.specs.Glued.{is_alone}
 use Rattle.bridge.specs.Spelling.{root_mark}
 use Rattle.bridge.specs.Text.{is_visible, is_char}
-use Rattle.small_grammar.specs.Text.{same_text}
+use Rattle.cfg_options.specs.small_grammar.Text.{same_text}
 
 -- what comes before a name that `!` and a visible group follow: nothing that counts; `$crate ::` or
 -- the root of another crate and `::`, which belong to the call; or another `::`, after which there

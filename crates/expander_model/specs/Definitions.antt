@@ -10,7 +10,7 @@ use Rattle.tt_data.specs.declared.leaf.Ident.{Ident}
 use Rattle.tt_data.specs.declared.leaf.Leaf.TheVariants as as_leaf
 use Rattle.tt.specs.FirstTrees.{first_ident, first_punct, first_group}
 use Rattle.bridge.specs.Text.{same_kind, is_char}
-use Rattle.small_grammar.specs.Text.{same_text, has_text, ◌>>=◌, ◌>>◌, is_empty}
+use Rattle.cfg_options.specs.small_grammar.Text.{same_text, has_text, ◌>>=◌, ◌>>◌, is_empty}
 use Rattle.cfg_options.specs.Conditions.{or_else}
 
 -- a definition of a macro

@@ -1,7 +1,7 @@
 -- The edition that a mark before a definition says.
 use Rattle.std.specs.Prelude.{ℕ, List, Option, Some, None, codes, unwrap_or, if◌then◌else◌}
 use Rattle.bridge.specs.Text.{same_kind, is_char}
-use Rattle.small_grammar.specs.Text.{same_text, ◌>>=◌, ◌>>◌}
+use Rattle.cfg_options.specs.small_grammar.Text.{same_text, ◌>>=◌, ◌>>◌}
 use Rattle.tt.specs.FirstTrees.{first_ident, first_punct, first_group}
 use Rattle.tt_data.specs.Forest.{Forest}
 use Rattle.tt_data.specs.declared.delimiter.DelimiterKind.TheVariants.{Bracket}

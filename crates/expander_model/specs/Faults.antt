@@ -9,7 +9,7 @@ use Rattle.expander_model.specs.declared.fault.FaultKind.TheVariants.{CannotExpa
 use Rattle.expander_model.specs.Expansion.{PlacedStep}
 use Rattle.bridge.specs.Printing.{step_span}
 use Rattle.expander_model.specs.Printing.{PrintedToken}
-use Rattle.small_grammar.specs.Text.{is_word}
+use Rattle.cfg_options.specs.small_grammar.Text.{is_word}
 
 -- where a fault of an output token is reported: at the name of the outermost call, or the token
 abbrev pub place : PlacedStep → Span

@@ -4,7 +4,7 @@ use Rattle.tt_data.specs.Forest.{Forest}
 use Rattle.tt_data.specs.declared.leaf.Leaf.{Leaf}
 use Rattle.tt_data.specs.declared.leaf.Leaf.TheVariants as as_leaf
 use Rattle.tt.specs.FirstTrees.{first_ident}
-use Rattle.small_grammar.specs.Text.{◌>>=◌}
+use Rattle.cfg_options.specs.small_grammar.Text.{◌>>=◌}
 use Rattle.expander_model.specs.WholeItems.{behind_colons, is_bodied, is_extern_block, is_short, is_whole_call}
 
 -- a leaf is a punct of this character

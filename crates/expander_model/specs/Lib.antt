@@ -28,3 +28,6 @@ pub mod HashedTrees
 pub mod Splitting
 pub mod ItemSteps
 pub mod WalkSteps
+-- what crates above name too of those below
+pub use Rattle.mbe.specs as mbe
+pub use Rattle.cfg_options.specs as cfg_options

@@ -8,7 +8,7 @@ use Rattle.tt_data.specs.declared.leaf.Ident.{Ident}
 use Rattle.tt_data.specs.declared.leaf.Punct.{Punct}
 use Rattle.tt_data.specs.declared.span.Span.{Span}
 use Rattle.bridge.specs.Text.{is_visible, same_kind}
-use Rattle.small_grammar.specs.Text.{same_text}
+use Rattle.cfg_options.specs.small_grammar.Text.{same_text}
 use Rattle.tt_data.specs.declared.delimiter.DelimiterKind.{DelimiterKind}
 use Rattle.tt_data.specs.declared.delimiter.DelimiterKind.TheVariants.{Brace}
 use Rattle.tt_data.specs.declared.leaf.Leaf.{Leaf}

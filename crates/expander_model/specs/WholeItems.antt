@@ -10,7 +10,7 @@ use Rattle.tt_data.specs.declared.leaf.Leaf.{Leaf}
 use Rattle.tt_data.specs.declared.leaf.Leaf.TheVariants as as_leaf
 use Rattle.tt.specs.FirstTrees.{first_group, first_punct}
 use Rattle.bridge.specs.Text.{is_punct, same_kind}
-use Rattle.small_grammar.specs.Text.{is_empty, ◌>>=◌, ◌>>◌}
+use Rattle.cfg_options.specs.small_grammar.Text.{is_empty, ◌>>=◌, ◌>>◌}
 use Rattle.expander_model.specs.Calls.{is_colons}
 use Rattle.expander_model.specs.CallSteps.{bare_call}
 use Rattle.expander_model.specs.Definitions.{Definition, after_attributes, after_pub, after_word, definition_of, is_semicolon}

@@ -4,9 +4,9 @@ use Rattle.tt_data.specs.Forest.{Forest}
 use Rattle.tt_data.specs.declared.edition.Edition.{Edition}
 use Rattle.tt_data.specs.declared.span.Span.{Span}
 use Rattle.tt_data.specs.declared.span.SyntaxContext.TheVariants.{Made}
-use Rattle.mbe_rules.specs.Items.{Rules}
-use Rattle.mbe_rules.specs.Parsing.{macro_of, macro_rules_of}
-use Rattle.mbe_rules.specs.declared.macro_call_style.MacroCallStyle.TheVariants.{FnLike}
+use Rattle.mbe.specs.mbe_rules.Items.{Rules}
+use Rattle.mbe.specs.mbe_rules.Parsing.{macro_of, macro_rules_of}
+use Rattle.mbe.specs.mbe_rules.declared.macro_call_style.MacroCallStyle.TheVariants.{FnLike}
 use Rattle.mbe.specs.Bursts as made_by
 use Rattle.mbe.specs.PutOut as counted
 use Rattle.mbe.specs.Fit.{fit}

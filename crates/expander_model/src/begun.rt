@@ -6,7 +6,7 @@ ghost use Rattle.expander_model.specs.PieceStates.{after_leaf, after_literal, af
 ghost use Rattle.expander_model.specs.PieceStates.{begun_with, by_word, holds_items, is_at_start};
 ghost use Rattle.expander_model.specs.PieceStates.{is_dropped, is_item_word, is_qualifier};
 
-use small_grammar::names::has_text;
+use cfg_options::small_grammar::names::has_text;
 use tt_data::{DelimiterKind, IdentRef, LeafRef, Punct};
 
 /// What of a piece came so far.

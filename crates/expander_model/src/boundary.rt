@@ -2,7 +2,7 @@
 //! reader uses the guess to choose how far to read, and what it reads decides.
 ghost use Rattle.std.specs.Prelude.{◌≤◌, IfSome, length};
 
-use rustc_lexer::{DocStyle, Token, TokenKind};
+use bridge::rustc_lexer::{DocStyle, Token, TokenKind};
 
 // What a piece begins with, outside groups.
 #[derive(Clone, Copy, PartialEq, Eq)]

@@ -7,7 +7,7 @@ ghost use Rattle.expander_model.specs.Definitions.{ends_definition, macro_rules_
 ghost use Rattle.expander_model.specs.Definitions.{macro_of, definition_of};
 
 use cfg_options::first_attribute;
-use small_grammar::names::has_text;
+use cfg_options::small_grammar::names::has_text;
 use std::marker::Model;
 use tt::TtIter;
 use tt_data::{Delimiter, DelimiterKind, Ident};

@@ -4,7 +4,7 @@ ghost use Rattle.bridge.specs.TokenEvents.{step_of};
 ghost use Rattle.expander_model.specs.Faults.{place, is_definition_word, in_order};
 
 use bridge::parts::TokenEvent;
-use small_grammar::names::has_text;
+use cfg_options::small_grammar::names::has_text;
 use std::alloc::AllocError;
 use tt_data::{LeafRef, Span, TextRange};
 

@@ -12,7 +12,7 @@ ghost use Rattle.expander_model.specs.ItemSteps.{behind_name, is_char_of, is_ite
 
 use crate::call::{bare_call, is_colons};
 use crate::definition::{after_attributes, after_pub, after_word, is_semicolon};
-use small_grammar::names::has_text;
+use cfg_options::small_grammar::names::has_text;
 use tt::TtIter;
 use tt_data::{DelimiterKind, IdentRef, LeafRef};
 

@@ -18,3 +18,5 @@ pub mod relative_spans;
 pub mod scope_rules;
 pub mod split;
 pub mod tree_walk;
+
+pub use mbe;

@@ -5,3 +5,5 @@ pub mod Runs
 pub mod Spots
 -- what the functions inside the crate promise each other
 pub mod Steps
+-- what crates above name too of those below
+pub use Rattle.expander_session.specs as expander_session

@@ -8,8 +8,8 @@ use Rattle.expander_model.specs.declared.fault.FaultKind.{FaultKind}
 use Rattle.expander_model.specs.declared.fault.FaultKind.TheVariants.{CannotExpand, BrokenDefinition, RecursionLimit, NestedDefinition, Unspellable, TooLarge}
 use Rattle.expander_run.specs.declared.stop.Stop.{Stop}
 use Rattle.expander_run.specs.declared.stop.Stop.TheVariants.{NotUtf8, TooLong, ReadFailed, WriteFailed, Refused}
-use Rattle.expander_scope.specs.declared.refusal.Refusal.{Refusal}
-use Rattle.expander_scope.specs.declared.refusal.Refusal.TheVariants.{Memory, Tokens, Numbers}
+use Rattle.expander_session.specs.expander_scope.declared.refusal.Refusal.{Refusal}
+use Rattle.expander_session.specs.expander_scope.declared.refusal.Refusal.TheVariants.{Memory, Tokens, Numbers}
 use Rattle.expander_session.specs.declared.session.Reply.{Reply}
 use Rattle.expander_session.specs.declared.session.Reply.TheVariants.{Read, Unread}
 

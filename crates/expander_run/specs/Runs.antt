@@ -14,10 +14,10 @@ use Rattle.expander_session.specs.State.{definitions_of}
 use Rattle.expander_session.specs.TooMany.{NeedsTooManyIn}
 use Rattle.expander_run.specs.Watch.{Watch}
 use Rattle.expander_model.specs.declared.fault.Fault.{Fault}
-use Rattle.expander_scope.specs.declared.refusal.Refusal.TheVariants.{Memory, Tokens, Numbers}
+use Rattle.expander_session.specs.expander_scope.declared.refusal.Refusal.TheVariants.{Memory, Tokens, Numbers}
 use Rattle.expander_session.specs.declared.session.Reply.{Reply}
 use Rattle.expander_session.specs.declared.session.Reply.TheVariants.{Read, Unread}
-use Rattle.mbe.specs.Grammar.{Grammar}
+use Rattle.expander_session.specs.mbe.Grammar.{Grammar}
 use Rattle.expander_run.specs.declared.options.Options.{Options}
 use Rattle.expander_run.specs.declared.program.Status.{Status}
 use Rattle.expander_run.specs.declared.stop.Stop.{Stop}

@@ -8,7 +8,7 @@ use Rattle.expander_session.specs.State.{definitions_of}
 use Rattle.tt_data.specs.Forest.{Forest}
 use Rattle.expander_run.specs.Runs.{IsFlushed, IsInput, StopsAfter, is_of_reader, is_of_writer, printed_of}
 use Rattle.expander_run.specs.Watch.{Watch}
-use Rattle.expander_scope.specs.declared.refusal.Refusal.TheVariants.{Memory}
+use Rattle.expander_session.specs.expander_scope.declared.refusal.Refusal.TheVariants.{Memory}
 use Rattle.expander_session.specs.Expanded.{Expanded}
 use Rattle.expander_session.specs.declared.session.Reply.{Reply}
 use Rattle.expander_session.specs.declared.session.Reply.TheVariants.{Read}

@@ -7,3 +7,5 @@ pub mod options;
 pub mod program;
 mod stop;
 pub mod watched;
+
+pub use expander_session;

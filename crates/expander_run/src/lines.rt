@@ -9,7 +9,7 @@ ghost use Rattle.expander_run.specs.Spots.{IsSpot};
 use crate::stop::Stop;
 use bridge::ReadFaultKind;
 use expander_model::fault::{Fault, FaultKind};
-use expander_scope::refusal::Refusal;
+use expander_session::expander_scope::refusal::Refusal;
 use expander_session::session::Reply;
 use memchr::memchr;
 use std::alloc::{AllocError, Global};

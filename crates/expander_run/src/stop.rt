@@ -1,6 +1,6 @@
 //! Why a run stops without an answer.
 
-use expander_scope::refusal::Refusal;
+use expander_session::expander_scope::refusal::Refusal;
 
 /// Why a run stops without an answer.
 #[derive(Clone, Copy)]

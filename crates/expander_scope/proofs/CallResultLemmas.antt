@@ -9,7 +9,7 @@ use Rattle.bridge.specs.Text.{is_visible}
 use Rattle.expander_model.specs.CallSteps.{key_at}
 use Rattle.expander_model.specs.Calls.{Path, bare, from_crate, other, key_of}
 use Rattle.expander_model.specs.Definitions.{Definition, nearest}
-use Rattle.cfg_options.specs.Conditions.{or_else}
+use Rattle.expander_model.specs.cfg_options.Conditions.{or_else}
 use Rattle.expander_model.specs.Expansion.{World, Outcome, CallSite, PlacedStep, faulted, placed, just, followed_by, bursting, stays, before_group, whole_call}
 use Rattle.expander_model.specs.Held.{Numbered, unnumbered}
 use Rattle.expander_model.specs.PieceStates.{after_call}

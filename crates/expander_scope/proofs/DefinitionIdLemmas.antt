@@ -4,7 +4,7 @@ use Rattle.std.specs.Prelude.{◌||◌, is_some}
 use Rattle.std.specs.List.{list_any}
 use Rattle.tt_data.specs.Forest.{Forest}
 use Rattle.expander_model.specs.EqualTrees.{same_forest}
-use Rattle.cfg_options.specs.Conditions.{or_else}
+use Rattle.expander_model.specs.cfg_options.Conditions.{or_else}
 use Rattle.expander_scope.specs.DefinitionIds.{AreNumbered, AreNumbers, HaveNumbers, by_either}
 use Rattle.expander_scope.specs.NewNumbers.{needed}
 

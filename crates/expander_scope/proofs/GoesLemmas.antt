@@ -17,7 +17,7 @@ use Rattle.expander_model.specs.Expansion.{World, Outcome, CallSite, PlacedStep,
 use Rattle.expander_model.specs.Held.{Numbered, unnumbered}
 use Rattle.expander_model.specs.PieceStates.{after_leaf, after_group, after_name, is_dropped}
 use Rattle.expander_model.specs.Scoping.{Around as Surroundings, Scoped, out_piece, definition_piece, kind_of, kind_in, and_next, defined, definition_in, in_brackets, in_group, is_excused, is_left_out, only, stays_in, unless_excused}
-use Rattle.cfg_options.specs.declared.options.CfgOptions.{CfgOptions}
+use Rattle.expander_model.specs.cfg_options.declared.options.CfgOptions.{CfgOptions}
 use Rattle.expander_model.specs.declared.dialect.Dialect.{Dialect}
 use Rattle.expander_model.specs.Pieces.{cut}
 use Rattle.expander_model.specs.WalkSteps.{Enters, GoesOn, groups_of}

@@ -20,3 +20,7 @@ mod GoesLemmas
 mod QuietLemmas
 mod PieceLemmas
 mod AnchoredLemmas
+-- what crates above name too of those below
+pub use Rattle.textual_scope.proofs.BoundedLemmas
+pub use Rattle.textual_scope.proofs.ChangeLemmas
+pub use Rattle.textual_scope.proofs.RuleLemmas

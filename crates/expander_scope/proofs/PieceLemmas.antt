@@ -10,7 +10,7 @@ use Rattle.tt_data.specs.declared.leaf.Punct.{Punct}
 use Rattle.bridge.specs.Text.{is_char, same_kind}
 use Rattle.small_grammar.specs.Text.{has_text}
 use Rattle.expander_model.specs.Definitions.{Definition, after_attributes, after_pub, definition_of, macro_of, macro_rules_of}
-use Rattle.cfg_options.specs.Conditions.{or_else}
+use Rattle.expander_model.specs.cfg_options.Conditions.{or_else}
 use Rattle.expander_model.specs.Pieces.{cut}
 use Rattle.expander_model.specs.declared.begun.Begun.TheVariants.{Nothing}
 use Rattle.expander_scope.specs.ListsLeft.{can_begin}

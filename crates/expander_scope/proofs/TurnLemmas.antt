@@ -21,7 +21,7 @@ use Rattle.expander_model.specs.declared.call.Call.{Call}
 use Rattle.expander_model.specs.CallSteps.{bare_call, call_behind_colons, crate_call, call_at, foreign_root, key_at, key_with}
 use Rattle.expander_model.specs.Calls.{Path, bare, from_crate, other, call, is_bang_group, is_colons, is_foreign, key_behind, key_of, marked}
 use Rattle.small_grammar.specs.Text.{◌>>=◌, ◌>>◌}
-use Rattle.cfg_options.specs.Conditions.{or_else}
+use Rattle.expander_model.specs.cfg_options.Conditions.{or_else}
 use Rattle.expander_model.specs.Expansion.{World, Outcome, Deeper, CallSite, just, followed_by, grouped, found, looked_up, unbroken, at_call, before_group, whole_call, search_calls}
 use Rattle.expander_scope.proofs.CallLemmas.{IsBare, IsBehind, IsOfCrate, is_bare as bare_is, is_behind, is_of_crate, marked_bare, marked_behind, marked_of_crate, no_call}
 use Rattle.expander_scope.proofs.MarkLemmas.{unmarked-marked}

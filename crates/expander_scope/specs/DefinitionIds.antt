@@ -3,7 +3,7 @@ use Rattle.std.specs.Prelude.{◌≡◌, ℕ, ◌+◌, ◌≤◌, List, Option, 
 use Rattle.std.specs.List.{list_any}
 use Rattle.tt_data.specs.Forest.{Forest}
 use Rattle.expander_model.specs.EqualTrees.{same_forest}
-use Rattle.cfg_options.specs.Conditions.{or_else}
+use Rattle.expander_model.specs.cfg_options.Conditions.{or_else}
 use Rattle.expander_scope.specs.NewNumbers.{needed}
 
 -- ids of trees: each is from 1 to the number given, and no two trees have the same

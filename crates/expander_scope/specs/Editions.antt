@@ -1,6 +1,6 @@
 -- Definitions whose identifiers are all of one edition.
 use Rattle.std.specs.Prelude.{◌≡◌}
-use Rattle.mbe.specs.Macros.{rules_of}
+use Rattle.expander_model.specs.mbe.Macros.{rules_of}
 use Rattle.tt_data.specs.declared.edition.Edition.{Edition}
 use Rattle.expander_model.specs.Held.{anchored_definition}
 use Rattle.expander_scope.specs.Outcomes.{numbered_of_known}

@@ -20,7 +20,7 @@ use Rattle.tt_data.specs.declared.span.Span.{Span}
 use Rattle.expander_model.specs.declared.dialect.Dialect.{Dialect}
 use Rattle.expander_model.specs.Held.{Numbered, numbered_world, unnumbered}
 use Rattle.expander_model.specs.World.{world}
-use Rattle.mbe.specs.Grammar.{Grammar}
+use Rattle.expander_model.specs.mbe.Grammar.{Grammar}
 use Rattle.expander_scope.specs.ScopeTable.{scope_in}
 use Rattle.expander_scope.specs.declared.scope.Scope as table
 use Rattle.expander_scope.specs.Outcomes.{find_of}

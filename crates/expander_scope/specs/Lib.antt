@@ -22,3 +22,5 @@ pub mod DefinitionIds
 pub mod Interning
 pub mod DefinitionTexts
 pub mod NameTables
+-- what crates above name too of those below
+pub use Rattle.textual_scope.specs as textual_scope

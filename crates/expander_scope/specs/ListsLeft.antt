@@ -11,7 +11,7 @@ use Rattle.expander_model.specs.Definitions.{Definition, definition_of}
 use Rattle.expander_model.specs.Expansion.{World, Outcome, just, followed_by}
 use Rattle.expander_model.specs.Held.{Numbered}
 use Rattle.expander_model.specs.Pieces.{cut}
-use Rattle.cfg_options.specs.declared.options.CfgOptions.{CfgOptions}
+use Rattle.expander_model.specs.cfg_options.declared.options.CfgOptions.{CfgOptions}
 use Rattle.expander_model.specs.Scoping.{Around, Scoped, is_out}
 use Rattle.expander_model.specs.declared.begun.Begun.{Begun}
 use Rattle.expander_model.specs.declared.dialect.Dialect.{Dialect}

@@ -1,7 +1,7 @@
 -- What names resolve to, in the table of the definitions in scope, and where these start.
 use Rattle.std.specs.Prelude.{◌≡◌, ℕ, IfSome, List, Option, option_map, option_and_then, slice_get}
 use Rattle.std.specs.Rc.{rc_value}
-use Rattle.mbe.specs.Grammar.{Grammar}
+use Rattle.expander_model.specs.mbe.Grammar.{Grammar}
 use Rattle.tt_data.specs.Forest.{Forest}
 use Rattle.expander_scope.specs.Editions.{IsRead}
 use Rattle.expander_model.specs.Expansion.{Outcome}

@@ -9,10 +9,10 @@ use Rattle.tt_data.specs.declared.leaf.Leaf.{Leaf}
 use Rattle.tt_data.specs.declared.delimiter.Delimiter.{Delimiter}
 use Rattle.tt_data.specs.declared.edition.Edition.{Edition}
 use Rattle.tt_data.specs.declared.span.Span.{Span}
-use Rattle.mbe.specs.Grammar.{Grammar}
+use Rattle.expander_model.specs.mbe.Grammar.{Grammar}
 use Rattle.expander_model.specs.CallSteps.{call_at, call_behind_colons, key_at}
 use Rattle.expander_model.specs.Definitions.{Definition, nearest}
-use Rattle.cfg_options.specs.Conditions.{or_else}
+use Rattle.expander_model.specs.cfg_options.Conditions.{or_else}
 use Rattle.expander_model.specs.Expansion.{World, Outcome, PlacedStep, just}
 use Rattle.expander_model.specs.Held.{Numbered, unnumbered}
 use Rattle.expander_model.specs.PieceStates.{after_call, after_group, after_name, is_dropped}

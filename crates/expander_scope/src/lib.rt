@@ -17,3 +17,5 @@ pub mod outcome;
 pub mod refusal;
 mod rules;
 pub mod scope;
+
+pub use textual_scope;

@@ -8,7 +8,7 @@ ghost use Rattle.expander_scope.specs.MacroDefs.{definition_in};
 
 use crate::rules::{rules_in, tree_of};
 use expander_model::definition::definition_of;
-use mbe::DeclarativeMacro;
+use expander_model::mbe::DeclarativeMacro;
 use std::alloc::Global;
 use tt::{TopSubtree, TtIter};
 use tt_data::{Edition, Span, Symbol, TextRange, TtFault};

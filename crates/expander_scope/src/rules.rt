@@ -1,12 +1,12 @@
 //! Parses the rules of a definition, by `mbe`.
 ghost use Rattle.std.specs.Prelude.{◌≡◌, IfOk, IsOkUnless};
 ghost use Rattle.tt_data.specs.fault.TtFault.TheVariants.{Memory};
-ghost use Rattle.mbe.specs.Macros.{rules_of};
+ghost use Rattle.expander_model.specs.mbe.Macros.{rules_of};
 ghost use Rattle.expander_model.specs.World.{rules_by, rules_in};
 
 use expander_model::definition::Definition;
 use expander_model::edition_mark::edition_in;
-use mbe::DeclarativeMacro;
+use expander_model::mbe::DeclarativeMacro;
 use std::alloc::Global;
 use tt::{TopSubtree, TtIter};
 use tt_data::{Delimiter, Edition, Span, SyntaxContext, TtFault};

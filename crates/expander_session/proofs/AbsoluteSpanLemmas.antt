@@ -13,7 +13,7 @@ use Rattle.bridge.specs.declared.printing.relative_spans.Place.{Place}
 use Rattle.tt_data.specs.Forest.{Forest, map_spans}
 use Rattle.expander_model.specs.Scoping.{is_out}
 use Rattle.expander_model.specs.declared.scope_rules.Standing.TheVariants.{Top}
-use Rattle.textual_scope.proofs.ChangeLemmas.{is_out-with}
+use Rattle.expander_scope.proofs.ChangeLemmas.{is_out-with}
 use Rattle.tt_data.specs.declared.edition.Edition.{Edition}
 use Rattle.expander_model.specs.declared.dialect.Dialect.{Dialect}
 use Rattle.tt_data.specs.declared.span.TextRange.{TextRange}

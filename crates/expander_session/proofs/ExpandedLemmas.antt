@@ -11,7 +11,7 @@ use Rattle.expander_model.specs.Limits.{expanded}
 use Rattle.expander_model.specs.declared.scope_rules.Standing.TheVariants.{Top}
 use Rattle.expander_session.specs.Agreement.{FoundIn, scope_of}
 use Rattle.expander_session.proofs.FindsLemmas.{made_finds}
-use Rattle.textual_scope.proofs.BoundedLemmas.{agree_outermost, found_outermost}
+use Rattle.expander_scope.proofs.BoundedLemmas.{agree_outermost, found_outermost}
 
 -- a look-up is what the scope finds
 abbrev IsFound : {D : Type 0} → (List ℕ → Option D) → (List ℕ × Option D) → Type 0

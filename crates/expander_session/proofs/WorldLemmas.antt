@@ -15,9 +15,9 @@ use Rattle.mbe.specs.PutOut as counted
 use Rattle.mbe.specs.Fit.{fit, fit_with}
 use Rattle.mbe.specs.Grammar.{Grammar}
 use Rattle.mbe.specs.Markers.{is_name}
-use Rattle.textual_scope.proofs.ChangeLemmas.{scoped-with}
-use Rattle.textual_scope.proofs.RuleLemmas.{top_level}
-use Rattle.textual_scope.specs.ScopeChanges.{scoped_with}
+use Rattle.expander_scope.proofs.ChangeLemmas.{scoped-with}
+use Rattle.expander_scope.proofs.RuleLemmas.{top_level}
+use Rattle.expander_scope.specs.textual_scope.ScopeChanges.{scoped_with}
 use Rattle.expander_model.specs.Changes.{outcome_with}
 use Rattle.expander_model.specs.Dialects as dialects
 use Rattle.expander_model.specs.Scoping.{Scoped, without_locals}

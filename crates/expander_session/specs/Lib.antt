@@ -24,3 +24,7 @@ pub mod EvaluatedTexts
 pub mod Emitting
 pub mod Shown
 pub mod CachedOutputs
+-- what crates above name too of those below
+pub use Rattle.expander_scope.specs as expander_scope
+pub use Rattle.mbe.specs as mbe
+pub use Rattle.expander_sources.specs as expander_sources

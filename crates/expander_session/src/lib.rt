@@ -16,3 +16,6 @@ mod memo_ref;
 mod new_memo;
 mod recent_memos;
 pub mod session;
+
+pub use expander_scope;
+pub use expander_sources;

@@ -13,3 +13,5 @@ mod SourceLemmas
 mod PushLemmas
 mod PreludeLemmas
 mod Rows
+-- what crates above name too of those below
+pub use Rattle.expander_model.proofs.SplittingLemmas

@@ -8,3 +8,5 @@ pub mod Picks
 pub mod Imports
 pub mod SourceItems
 pub mod Builds
+-- what crates above name too of those below
+pub use Rattle.expander_model.specs as expander_model

@@ -8,3 +8,5 @@ pub mod Texts
 pub mod Trying
 pub mod Numbered
 pub mod Passing
+-- what crates above name too of those below
+pub use Rattle.call_expansion.specs as call_expansion

@@ -47,5 +47,5 @@ pub fn definitions_do_what_they_mean()
         expanded (world grammar edition top_level) (λ d. d) scope depth f
         ≡ expansion (world grammar edition top_level) scope depth None f }
 {
-    textual_scope::laws::top_level_scope_is_as_before();
+    expander_scope::textual_scope::laws::top_level_scope_is_as_before();
 }

@@ -9,3 +9,5 @@ mod list;
 pub mod step;
 pub mod text_trace;
 mod tracing;
+
+pub use call_expansion;

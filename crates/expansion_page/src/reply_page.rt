@@ -1,6 +1,6 @@
 //! The page of a reply to a text.
 ghost use Rattle.std.specs.Prelude.{◌≡◌, ◌<◌, ◌^◌, ℕ, List, [], IfOk, length, map, string_bytes};
-ghost use Rattle.expander_session.specs.declared.session.Reply.TheVariants.{Read, Unread};
+ghost use Rattle.expander_run.specs.expander_session.declared.session.Reply.TheVariants.{Read, Unread};
 ghost use Rattle.expansion_page.specs.Pages.{IsFramed, IsNamedReplyPage, IsReplyPage, ShowsReply};
 ghost use Rattle.expansion_page.specs.Pages.{shown_origins};
 ghost use Rattle.html_code.specs.PageParts.{IsShort};
@@ -8,8 +8,8 @@ ghost use Rattle.html_code.specs.PageParts.{IsShort};
 use crate::frame::frame;
 use crate::told::{lines_of, lone_mark, marks_of, origins_of};
 use bridge::ReadFault;
+use expander_run::expander_session::session::{Expansion, Reply};
 use expander_run::lines::{FIRST, push_line, read_fault_words, spot_of};
-use expander_session::session::{Expansion, Reply};
 use html_code::Origin;
 use html_code::page::{Printed, Shown};
 use std::alloc::{AllocError, Global};

@@ -3,8 +3,8 @@ ghost use Rattle.std.specs.Prelude.{◌≡◌, ◌<◌, ◌^◌, [], ◌∷◌, 
 ghost use Rattle.expansion_page.specs.Pages.{fault_line, shown_origin, shown_origins};
 
 use expander_model::fault::Fault;
+use expander_run::expander_session::session::Expansion;
 use expander_run::lines::{FIRST, fault_words, push_line, spot_of};
-use expander_session::session::Expansion;
 use html_code::{Mark, Origin};
 use std::alloc::{AllocError, Global};
 use tt_data::TextRange;

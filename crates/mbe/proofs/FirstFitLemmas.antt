@@ -12,7 +12,7 @@ use Rattle.mbe_rules.specs.declared.rules.Rule.{Rule}
 use Rattle.mbe.specs.Bursts.{bursts, rule_bursts, unless_fit}
 use Rattle.mbe.specs.PutOut.{if_unfit, left_of, put_out, rule_output}
 use Rattle.mbe.specs.Fit.{styled_fit, or_later, fit_from}
-use Rattle.mbe_matcher.specs.Grammar.{Grammar}
+use Rattle.mbe_transcriber.specs.mbe_matcher.Grammar.{Grammar}
 use Rattle.mbe.proofs.LeftLemmas.{left_more, left_nothing, left_passed}
 
 or-false : (a b : Bool) → (a || b) ≡ false → (a ≡ false) × (b ≡ false)

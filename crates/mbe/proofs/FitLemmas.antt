@@ -9,15 +9,15 @@ use Rattle.mbe_rules.specs.Parsing.{macro_rules_of, macro_of}
 use Rattle.mbe_rules.specs.Relabelling.{items_with, rule_with}
 use Rattle.mbe_rules.specs.declared.macro_call_style.MacroCallStyle.{MacroCallStyle}
 use Rattle.mbe_rules.proofs.ParsingLemmas.{macro_rules_of-map, macro_of-map}
-use Rattle.mbe_matcher.specs.Bindings.{bindings}
+use Rattle.mbe_transcriber.specs.mbe_matcher.Bindings.{bindings}
 use Rattle.mbe_transcriber.specs.Filling.{filled}
 use Rattle.mbe.specs.Fit.{same_style, rule_fit, or_later, styled_fit, fit_from, fit, fit_with}
 use Rattle.mbe_transcriber.specs.Limits.{most_rounds}
-use Rattle.mbe_matcher.specs.Grammar.{Grammar}
-use Rattle.mbe_matcher.specs.Readings.{Move, the_reading}
-use Rattle.mbe_matcher.proofs.BindingLemmas.{bindings-map}
+use Rattle.mbe_transcriber.specs.mbe_matcher.Grammar.{Grammar}
+use Rattle.mbe_transcriber.specs.mbe_matcher.Readings.{Move, the_reading}
+use Rattle.mbe_transcriber.proofs.BindingLemmas.{bindings-map}
 use Rattle.mbe_transcriber.proofs.FillingLemmas.{by_test, filled-map}
-use Rattle.mbe_matcher.proofs.ReadingLemmas.{move_with, the_reading-map}
+use Rattle.mbe_transcriber.proofs.ReadingLemmas.{move_with, the_reading-map}
 
 module _ (f : Span → Span) (is_identifier : List ℕ → Bool) (grammar : Grammar) (mark : Span → Span) (commutes : (s : Span) → f (mark s) ≡ mark (f s)) where
   read-map : (template : Items) (o : Option (List Move)) →

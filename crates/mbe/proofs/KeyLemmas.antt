@@ -10,11 +10,11 @@ use Rattle.mbe_rules.specs.Items.{Items, done, item, word, puncts, lifetime, dol
 use Rattle.mbe_rules.specs.Ops.{items_of, rule_of}
 use Rattle.mbe_rules.specs.Text.{same_text}
 use Rattle.mbe_rules.specs.declared.rules.Rule.{Rule}
-use Rattle.mbe_matcher.specs.Blocked.{is_blocked}
+use Rattle.mbe_transcriber.specs.mbe_matcher.Blocked.{is_blocked}
 use Rattle.mbe.specs.Keys.{first_key, key_from, keys_of, name_key}
-use Rattle.mbe_matcher.specs.Units.{place}
-use Rattle.mbe_matcher.proofs.LentLemmas as lent
-use Rattle.mbe_matcher.proofs.LentLemmas.{unnamed}
+use Rattle.mbe_transcriber.specs.mbe_matcher.Units.{place}
+use Rattle.mbe_transcriber.proofs.LentLemmas as lent
+use Rattle.mbe_transcriber.proofs.LentLemmas.{unnamed}
 
 -- a list that begins with a name
 pub a_name_first : (f : Forest) (x : Ident × Forest) → first_ident f ≡ Some x → f ≡ leaf (as_leaf.Ident x.0) x.1

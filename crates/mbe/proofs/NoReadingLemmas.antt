@@ -6,14 +6,14 @@ use Rattle.mbe_rules.specs.Items.{Item, dollar, variable, Separator, Items, done
 use Rattle.mbe_rules.specs.declared.parser.MetaVarKind.{MetaVarKind}
 use Rattle.mbe_rules.specs.declared.parser.MetaVarKind.TheVariants.{Vis}
 use Rattle.mbe_rules.specs.declared.parser.RepeatKind.{RepeatKind}
-use Rattle.mbe_matcher.specs.Grammar.{Grammar}
-use Rattle.mbe_matcher.specs.Paths.{IsAmong, when, only, has_clash}
-use Rattle.mbe_matcher.specs.Readings.{Move, enter, skip, leave, next_round, separator_move, Frame, in_group, in_round, parted, State, at, Choice, fragment_moves, item_moves, may_repeat, round_moves, next, start, has_used_up, place_of, takes, is_fragment, room, most_moves, readings, takings, the_reading}
-use Rattle.mbe_matcher.specs.Units.{same_unit, unit_of, unit_at, is_separator, Place, left}
-use Rattle.mbe_matcher.specs.Waiting.{Good}
-use Rattle.mbe_matcher.proofs.FallingLemmas.{bound}
-use Rattle.mbe_matcher.proofs.MatchingLemmas.{enough-moves, good-start, the_reading-only}
-use Rattle.mbe_matcher.proofs.MoveLemmas.{falls}
+use Rattle.mbe_transcriber.specs.mbe_matcher.Grammar.{Grammar}
+use Rattle.mbe_transcriber.specs.mbe_matcher.Paths.{IsAmong, when, only, has_clash}
+use Rattle.mbe_transcriber.specs.mbe_matcher.Readings.{Move, enter, skip, leave, next_round, separator_move, Frame, in_group, in_round, parted, State, at, Choice, fragment_moves, item_moves, may_repeat, round_moves, next, start, has_used_up, place_of, takes, is_fragment, room, most_moves, readings, takings, the_reading}
+use Rattle.mbe_transcriber.specs.mbe_matcher.Units.{same_unit, unit_of, unit_at, is_separator, Place, left}
+use Rattle.mbe_transcriber.specs.mbe_matcher.Waiting.{Good}
+use Rattle.mbe_transcriber.proofs.FallingLemmas.{bound}
+use Rattle.mbe_transcriber.proofs.MatchingLemmas.{enough-moves, good-start, the_reading-only}
+use Rattle.mbe_transcriber.proofs.MoveLemmas.{falls}
 use Rattle.mbe.specs.NoReading.{UsesUp, HasTwo, HasClashing}
 use Rattle.mbe.proofs.PartialLemmas.{AreApart, apart-when, clash-two, none-or-two, one-only, two-clash}
 

@@ -14,20 +14,20 @@ use Rattle.mbe_rules.specs.declared.macro_call_style.MacroCallStyle.{MacroCallSt
 use Rattle.mbe_rules.specs.declared.parser.RepeatKind.{RepeatKind}
 use Rattle.mbe_rules.specs.declared.parser.RepeatKind.TheVariants.{ZeroOrMore, OneOrMore, ZeroOrOne}
 use Rattle.mbe_rules.proofs.ParsingLemmas.{macro_rules_of-map, macro_of-map}
-use Rattle.mbe_matcher.specs.Bindings.{Map, bindings}
+use Rattle.mbe_transcriber.specs.mbe_matcher.Bindings.{Map, bindings}
 use Rattle.mbe.specs.Bursts.{bursts, rule_bursts, template_bursts, unless_fit}
 use Rattle.mbe.specs.PutOut.{if_unfit, put_out, rule_output, template_output}
 use Rattle.mbe_transcriber.specs.Filling.{filled_in, item_in, round_stands, rounds_of, separator_leaves}
 use Rattle.mbe.specs.Fit.{same_style, styled_fit}
 use Rattle.mbe_transcriber.specs.Limits.{most_rounds}
-use Rattle.mbe_matcher.specs.Grammar.{Grammar}
+use Rattle.mbe_transcriber.specs.mbe_matcher.Grammar.{Grammar}
 use Rattle.mbe_transcriber.specs.Output.{and_then, output, output_from, output_in, output_of_rounds, size_of}
-use Rattle.mbe_matcher.specs.Readings.{Move, the_reading}
-use Rattle.mbe_matcher.proofs.BindingLemmas.{bindings-map, map_with}
+use Rattle.mbe_transcriber.specs.mbe_matcher.Readings.{Move, the_reading}
+use Rattle.mbe_transcriber.proofs.BindingLemmas.{bindings-map, map_with}
 use Rattle.mbe_transcriber.proofs.FillingLemmas.{by_test, filled_in-map, item_in-map, round_stands-map, rounds_of-map}
 use Rattle.mbe.proofs.FitLemmas.{styled_fit-map}
 use Rattle.mbe_transcriber.proofs.FragmentLemmas.{separator_leaves-map}
-use Rattle.mbe_matcher.proofs.ReadingLemmas.{move_with, the_reading-map}
+use Rattle.mbe_transcriber.proofs.ReadingLemmas.{move_with, the_reading-map}
 
 module _ (f : Span → Span) where
   and_then-map : (o : Option Forest) (first others : ℕ) → and_then (option_map (map_spans f) o) first others ≡ and_then o first others

@@ -2,10 +2,10 @@
 use Rattle.std.proofs.Common.{◌≡◌, ◌⊎◌, inl, inr, refl, sym, ap, subst, ◌∙◌, ℕ, zero, suc, ◌≤◌, ◌<◌, ◌==◌, Bool, true, false, not, List, [], ◌∷◌, ◌++◌, map, length, arith, Some, None}
 use Rattle.std.specs.List.{flat_map, list_any}
 use Rattle.std.proofs.lemmas.Bool.{eq-eqb, eqb-true}
-use Rattle.mbe_matcher.specs.Paths.{IsAmong, when, IsPath, paths_from, takings_from, Takings, takings_at, clash, has_clash, only}
+use Rattle.mbe_transcriber.specs.mbe_matcher.Paths.{IsAmong, when, IsPath, paths_from, takings_from, Takings, takings_at, clash, has_clash, only}
 use Rattle.mbe_rules.specs.Text.{is_nil}
-use Rattle.mbe_matcher.proofs.ClashLemmas.{or-left, or-right, clash-from, clash-to}
-use Rattle.mbe_matcher.proofs.PathListLemmas.{among-append, listed, is_path, path-length}
+use Rattle.mbe_transcriber.proofs.ClashLemmas.{or-left, or-right, clash-from, clash-to}
+use Rattle.mbe_transcriber.proofs.PathListLemmas.{among-append, listed, is_path, path-length}
 
 -- ---- elements of lists
 

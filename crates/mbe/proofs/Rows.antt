@@ -12,9 +12,9 @@ use Rattle.tt_data.specs.declared.leaf.Leaf.TheVariants as as_leaf
 use Rattle.tt_data.specs.declared.span.Span.{Span}
 use Rattle.tt_data.specs.declared.span.SyntaxContext.{SyntaxContext}
 use Rattle.tt_data.specs.declared.span.SyntaxContext.TheVariants.{Written, Made}
-use Rattle.fragment_grammar.specs.Steps.{steps}
-use Rattle.fragment_grammar.specs.declared.fragment.Prefix.{Prefix}
-use Rattle.fragment_grammar.specs.declared.fragment.PrefixEntryPoint.TheVariants.{Vis}
+use Rattle.mbe_transcriber.specs.mbe_matcher.fragment_grammar.Steps.{steps}
+use Rattle.mbe_transcriber.specs.mbe_matcher.fragment_grammar.declared.fragment.Prefix.{Prefix}
+use Rattle.mbe_transcriber.specs.mbe_matcher.fragment_grammar.declared.fragment.PrefixEntryPoint.TheVariants.{Vis}
 use Rattle.mbe_rules.specs.Items.{Rule, Rules}
 use Rattle.mbe_rules.specs.Parsing.{macro_rules_of}
 use Rattle.mbe_rules.specs.Text.{is_char}
@@ -22,13 +22,13 @@ use Rattle.mbe_rules.specs.declared.macro_call_style.MacroCallStyle.TheVariants.
 use Rattle.mbe_rules.specs.declared.parser.MetaVarKind.{MetaVarKind}
 use Rattle.mbe_rules.specs.declared.parser.MetaVarKind.TheVariants as kind
 use Rattle.mbe_rules.proofs.Written.{trees}
-use Rattle.mbe_matcher.specs.Bindings.{bindings}
+use Rattle.mbe_transcriber.specs.mbe_matcher.Bindings.{bindings}
 use Rattle.mbe.specs.Fit.{fit}
 use Rattle.mbe_transcriber.specs.Limits.{most_rounds}
-use Rattle.mbe_matcher.specs.Fragments.{taken}
-use Rattle.mbe_matcher.specs.Grammar.{Grammar}
+use Rattle.mbe_transcriber.specs.mbe_matcher.Fragments.{taken}
+use Rattle.mbe_transcriber.specs.mbe_matcher.Grammar.{Grammar}
 use Rattle.mbe_transcriber.specs.Output.{output}
-use Rattle.mbe_matcher.specs.Readings.{the_reading}
+use Rattle.mbe_transcriber.specs.mbe_matcher.Readings.{the_reading}
 
 -- ---- grammars of the rows
 

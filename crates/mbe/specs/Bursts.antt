@@ -5,12 +5,12 @@ use Rattle.tt_data.specs.Forest.{Forest}
 use Rattle.tt_data.specs.declared.span.Span.{Span}
 use Rattle.mbe_rules.specs.Items.{Rule}
 use Rattle.mbe_rules.specs.declared.macro_call_style.MacroCallStyle.{MacroCallStyle}
-use Rattle.mbe_matcher.specs.Bindings.{bindings}
+use Rattle.mbe_transcriber.specs.mbe_matcher.Bindings.{bindings}
 use Rattle.mbe.specs.Fit.{same_style, styled_fit}
 use Rattle.mbe_transcriber.specs.Limits.{most_rounds}
-use Rattle.mbe_matcher.specs.Grammar.{Grammar}
+use Rattle.mbe_transcriber.specs.mbe_matcher.Grammar.{Grammar}
 use Rattle.mbe_transcriber.specs.Output.{output}
-use Rattle.mbe_matcher.specs.Readings.{Move, the_reading}
+use Rattle.mbe_transcriber.specs.mbe_matcher.Readings.{Move, the_reading}
 
 -- false where a rule fits, and else what holds of later ones
 abbrev pub unless_fit : Option Forest → Bool → Bool

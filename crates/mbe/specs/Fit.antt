@@ -6,11 +6,11 @@ use Rattle.tt_data.specs.declared.span.Span.{Span}
 use Rattle.mbe_rules.specs.Items.{Rule}
 use Rattle.mbe_rules.specs.declared.macro_call_style.MacroCallStyle.{MacroCallStyle}
 use Rattle.mbe_rules.specs.declared.macro_call_style.MacroCallStyle.TheVariants.{FnLike, Attr, Derive}
-use Rattle.mbe_matcher.specs.Bindings.{bindings}
+use Rattle.mbe_transcriber.specs.mbe_matcher.Bindings.{bindings}
 use Rattle.mbe_transcriber.specs.Filling.{filled}
 use Rattle.mbe_transcriber.specs.Limits.{most_rounds}
-use Rattle.mbe_matcher.specs.Grammar.{Grammar}
-use Rattle.mbe_matcher.specs.Readings.{the_reading}
+use Rattle.mbe_transcriber.specs.mbe_matcher.Grammar.{Grammar}
+use Rattle.mbe_transcriber.specs.mbe_matcher.Readings.{the_reading}
 
 -- the two styles of calls are the same
 abbrev pub same_style : MacroCallStyle → MacroCallStyle → Bool

@@ -10,24 +10,24 @@ pub mod Unfit
 pub mod PutOut
 pub mod Bursts
 -- the definitions of the crates below that these use
-pub use Rattle.mbe_matcher.specs.Grammar
-pub use Rattle.mbe_matcher.specs.Units
-pub use Rattle.mbe_matcher.specs.Fragments
-pub use Rattle.mbe_matcher.specs.Paths
-pub use Rattle.mbe_matcher.specs.Readings
-pub use Rattle.mbe_matcher.specs.Bindings
-pub use Rattle.mbe_matcher.specs.Missing
-pub use Rattle.mbe_matcher.specs.Threads
-pub use Rattle.mbe_matcher.specs.Bound
-pub use Rattle.mbe_matcher.specs.Waiting
-pub use Rattle.mbe_matcher.specs.Positions
-pub use Rattle.mbe_matcher.specs.Places
-pub use Rattle.mbe_matcher.specs.Settled
-pub use Rattle.mbe_matcher.specs.Rounds
-pub use Rattle.mbe_matcher.specs.Ways
-pub use Rattle.mbe_matcher.specs.Going
-pub use Rattle.mbe_matcher.specs.Blocked
-pub use Rattle.mbe_matcher.specs.Collecting
+pub use Rattle.mbe_transcriber.specs.mbe_matcher.Grammar
+pub use Rattle.mbe_transcriber.specs.mbe_matcher.Units
+pub use Rattle.mbe_transcriber.specs.mbe_matcher.Fragments
+pub use Rattle.mbe_transcriber.specs.mbe_matcher.Paths
+pub use Rattle.mbe_transcriber.specs.mbe_matcher.Readings
+pub use Rattle.mbe_transcriber.specs.mbe_matcher.Bindings
+pub use Rattle.mbe_transcriber.specs.mbe_matcher.Missing
+pub use Rattle.mbe_transcriber.specs.mbe_matcher.Threads
+pub use Rattle.mbe_transcriber.specs.mbe_matcher.Bound
+pub use Rattle.mbe_transcriber.specs.mbe_matcher.Waiting
+pub use Rattle.mbe_transcriber.specs.mbe_matcher.Positions
+pub use Rattle.mbe_transcriber.specs.mbe_matcher.Places
+pub use Rattle.mbe_transcriber.specs.mbe_matcher.Settled
+pub use Rattle.mbe_transcriber.specs.mbe_matcher.Rounds
+pub use Rattle.mbe_transcriber.specs.mbe_matcher.Ways
+pub use Rattle.mbe_transcriber.specs.mbe_matcher.Going
+pub use Rattle.mbe_transcriber.specs.mbe_matcher.Blocked
+pub use Rattle.mbe_transcriber.specs.mbe_matcher.Collecting
 pub use Rattle.mbe_transcriber.specs.Filling
 pub use Rattle.mbe_transcriber.specs.Limits
 pub use Rattle.mbe_transcriber.specs.Markers
@@ -41,3 +41,6 @@ pub use Rattle.mbe_transcriber.specs.Walks
 -- what the functions inside the crate promise each other
 pub mod Keys
 pub mod FailureTasks
+-- what crates above name too of those below
+pub use Rattle.mbe_rules.specs as mbe_rules
+pub use Rattle.mbe_transcriber.specs as mbe_transcriber

@@ -2,10 +2,10 @@
 use Rattle.std.specs.Prelude.{◌≡◌, ◌≢◌, List, [], ◌∷◌, ◌++◌, true}
 use Rattle.tt_data.specs.Forest.{Forest}
 use Rattle.mbe_rules.specs.Items.{Items}
-use Rattle.mbe_matcher.specs.Grammar.{Grammar}
-use Rattle.mbe_matcher.specs.Paths.{IsAmong, IsPath}
-use Rattle.mbe_matcher.specs.Readings.{Move, State, start, next, has_used_up, place_of, takes, is_fragment}
-use Rattle.mbe_matcher.specs.Units.{left}
+use Rattle.mbe_transcriber.specs.mbe_matcher.Grammar.{Grammar}
+use Rattle.mbe_transcriber.specs.mbe_matcher.Paths.{IsAmong, IsPath}
+use Rattle.mbe_transcriber.specs.mbe_matcher.Readings.{Move, State, start, next, has_used_up, place_of, takes, is_fragment}
+use Rattle.mbe_transcriber.specs.mbe_matcher.Units.{left}
 
 module _ (grammar : Grammar) (pattern : Items) (argument : Forest) where
   -- these valid moves use up the argument

@@ -5,9 +5,9 @@ use Rattle.tt_data.specs.Forest.{Forest}
 use Rattle.tt_data.specs.declared.span.Span.{Span}
 use Rattle.mbe_rules.specs.Items.{Rule}
 use Rattle.mbe_rules.specs.declared.macro_call_style.MacroCallStyle.{MacroCallStyle}
-use Rattle.mbe_matcher.specs.Bindings.{bindings}
-use Rattle.mbe_matcher.specs.Grammar.{Grammar}
-use Rattle.mbe_matcher.specs.Readings.{Move, the_reading}
+use Rattle.mbe_transcriber.specs.mbe_matcher.Bindings.{bindings}
+use Rattle.mbe_transcriber.specs.mbe_matcher.Grammar.{Grammar}
+use Rattle.mbe_transcriber.specs.mbe_matcher.Readings.{Move, the_reading}
 use Rattle.mbe_transcriber.specs.Limits.{most_rounds}
 use Rattle.mbe_transcriber.specs.Output.{output}
 use Rattle.mbe.specs.Fit.{same_style, styled_fit}

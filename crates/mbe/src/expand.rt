@@ -16,8 +16,8 @@ ghost use Rattle.tt_data.specs.fault.TtFault.TheVariants.{Memory, Tokens};
 use crate::declarative_macro::DeclarativeMacro;
 use crate::recovery::failure;
 use crate::select_rule::{Bounds, Tried, first_fit};
-use fragment_grammar::FragmentGrammar;
 use mbe_rules::{ExpandResult, MacroCallStyle, MatchedArmIndex, ValueResult};
+use mbe_transcriber::mbe_matcher::fragment_grammar::FragmentGrammar;
 use std::alloc::Global;
 use tt::{Delimiter, Span, TokenTreesView, TopSubtree, TtFault};
 

@@ -14,10 +14,10 @@ ghost use Rattle.mbe.specs.Bursts.{bursts};
 ghost use Rattle.mbe.specs.Fit.{fit, fit_with};
 ghost use Rattle.mbe.specs.PutOut as tokens;
 ghost use Rattle.mbe.specs.NoReading.{HasClashing, HasTwo, UsesUp};
-ghost use Rattle.mbe_matcher.specs.Grammar.{Grammar};
-ghost use Rattle.mbe_matcher.specs.Paths.{IsPath, has_clash};
-ghost use Rattle.mbe_matcher.specs.Readings.{Move, State, start, next, has_used_up, takings};
-ghost use Rattle.mbe_matcher.specs.Readings.{the_reading};
+ghost use Rattle.mbe_transcriber.specs.mbe_matcher.Grammar.{Grammar};
+ghost use Rattle.mbe_transcriber.specs.mbe_matcher.Paths.{IsPath, has_clash};
+ghost use Rattle.mbe_transcriber.specs.mbe_matcher.Readings.{Move, State, start, next, has_used_up, takings};
+ghost use Rattle.mbe_transcriber.specs.mbe_matcher.Readings.{the_reading};
 
 use mbe_rules::MacroCallStyle;
 use tt_data::{Edition, Span, SyntaxContext};

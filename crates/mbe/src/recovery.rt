@@ -23,8 +23,8 @@ use crate::recovery::best_match::{Attempt, Call, attempted};
 use crate::recovery::transcribe::Filler;
 use crate::recovery::values::Values;
 use bumpalo::Bump;
-use fragment_grammar::FragmentGrammar;
 use mbe_rules::{ExpandError, ExpandErrorKind, MacroCallStyle, MatchedArmIndex, Op, Rule};
+use mbe_transcriber::mbe_matcher::fragment_grammar::FragmentGrammar;
 use std::alloc::Global;
 use tt::{DelimSpan, Delimiter, DelimiterKind, Span, TopSubtree, TopSubtreeBuilder, TtFault};
 

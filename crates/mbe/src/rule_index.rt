@@ -5,12 +5,12 @@ ghost use Rattle.tt.specs.Views.{forest};
 ghost use Rattle.tt_data.specs.Forest.{Forest};
 ghost use Rattle.mbe_rules.specs.Items.{Items};
 ghost use Rattle.mbe_rules.specs.Ops.{items_of, put_op, rule_of};
-ghost use Rattle.mbe_matcher.specs.Blocked.{is_blocked};
+ghost use Rattle.mbe_transcriber.specs.mbe_matcher.Blocked.{is_blocked};
 ghost use Rattle.mbe.specs.Keys.{first_key, key_from, keys_of, name_key};
-ghost use Rattle.mbe_matcher.specs.Units.{place};
+ghost use Rattle.mbe_transcriber.specs.mbe_matcher.Units.{place};
 
-use mbe_matcher::is_blocked;
 use mbe_rules::{Op, Rule};
+use mbe_transcriber::mbe_matcher::is_blocked;
 use std::alloc::{AllocError, Global};
 use tt::TokenTreesView;
 

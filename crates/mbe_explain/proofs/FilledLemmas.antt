@@ -11,8 +11,8 @@ use Rattle.mbe_rules.specs.declared.parser.RepeatKind.TheVariants.{ZeroOrMore, O
 use Rattle.mbe_matcher.specs.Bindings.{Binding, Map, binding_of, bindings, fragment, rounds, skipped}
 use Rattle.mbe_matcher.specs.Grammar.{Grammar}
 use Rattle.mbe_matcher.specs.Readings.{Move, the_reading}
-use Rattle.mbe_transcriber.specs.Filling as f
-use Rattle.mbe_transcriber.specs.Limits.{most_rounds}
+use Rattle.mbe.specs.mbe_transcriber.Filling as f
+use Rattle.mbe.specs.mbe_transcriber.Limits.{most_rounds}
 use Rattle.mbe.specs.Fit.{rule_fit}
 
 -- two results of which both are faults, or neither is

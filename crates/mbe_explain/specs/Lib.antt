@@ -11,3 +11,5 @@ pub mod Levels
 pub mod Surveys
 pub mod Searches
 pub mod Moves
+-- what crates above name too of those below
+pub use Rattle.mbe.specs as mbe

@@ -14,5 +14,6 @@ mod wanted;
 mod words;
 
 pub use explain::{Stop, StopKind, explain_pattern};
+pub use mbe;
 pub use rules::{Explanation, RuleStop, explain_call};
 pub use wanted::Wanted;

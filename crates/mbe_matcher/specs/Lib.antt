@@ -26,3 +26,5 @@ pub mod Blocked
 pub mod Skipping
 pub mod Counts
 pub mod Collecting
+-- what crates above name too of those below
+pub use Rattle.fragment_grammar.specs as fragment_grammar

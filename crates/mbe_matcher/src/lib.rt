@@ -20,6 +20,7 @@ mod way;
 pub use bind::bindings_of;
 pub use bindings::{Binding, Bindings, Bound};
 pub use fragment::{PassedFragment, expect_fragment, pass_fragment};
+pub use fragment_grammar;
 pub use fragment_grammar::{FragmentGrammar, Prefix, PrefixEntryPoint};
 pub use fragments::{is_refused, is_refused_2021};
 pub use lookahead::is_blocked;

@@ -9,3 +9,13 @@ pub mod FillTaskLemmas
 pub mod LoneLemmas
 pub mod WalkLemmas
 pub mod TextLemmas
+-- what crates above name too of those below
+pub use Rattle.mbe_matcher.proofs.BindingLemmas
+pub use Rattle.mbe_matcher.proofs.BlockedLemmas
+pub use Rattle.mbe_matcher.proofs.ClashLemmas
+pub use Rattle.mbe_matcher.proofs.FallingLemmas
+pub use Rattle.mbe_matcher.proofs.LentLemmas
+pub use Rattle.mbe_matcher.proofs.MatchingLemmas
+pub use Rattle.mbe_matcher.proofs.MoveLemmas
+pub use Rattle.mbe_matcher.proofs.PathListLemmas
+pub use Rattle.mbe_matcher.proofs.ReadingLemmas

@@ -12,3 +12,5 @@ pub mod Given
 pub mod Tasks
 pub mod Walks
 pub mod Counting
+-- what crates above name too of those below
+pub use Rattle.mbe_matcher.specs as mbe_matcher

@@ -12,5 +12,7 @@ mod transcriber;
 
 pub use fragment::put_in;
 pub use items::PlainItems;
+pub use mbe_matcher;
 pub use metavar_expr::rawness_of;
+pub use rustc_lexer;
 pub use transcriber::{Transcribed, fill, fill_within};

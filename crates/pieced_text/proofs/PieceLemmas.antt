@@ -8,9 +8,9 @@ use Rattle.bridge.specs.RelativeSpans.{own_place}
 use Rattle.tt_data.specs.Forest.{Forest}
 use Rattle.tt_data.specs.Walk.{walk}
 use Rattle.tt_data.specs.declared.span.Span.{Span}
-use Rattle.expander_model.specs.Held.{IsFrom, StandFromFirst}
-use Rattle.expander_model.specs.Pieces.{first_start, pieces, put_together, separated}
-use Rattle.expander_model.proofs.SplittingLemmas.{put_together-cut}
+use Rattle.expander_sources.specs.expander_model.Held.{IsFrom, StandFromFirst}
+use Rattle.expander_sources.specs.expander_model.Pieces.{first_start, pieces, put_together, separated}
+use Rattle.expander_sources.proofs.SplittingLemmas.{put_together-cut}
 use Rattle.expander_reparse.specs.RelativePieces.{AreOwn, IsOwnPiece, piece_at}
 use Rattle.expander_reparse.specs.declared.piece.Piece.{Piece}
 use Rattle.expander_reparse.proofs.RelativePieceLemmas.{own_back}

@@ -3,7 +3,7 @@ use Rattle.std.specs.Prelude.{◌≡◌, ℕ, List, All, map, Option, Some, None
 use Rattle.bridge.specs.TokenSteps.{text_reading}
 use Rattle.bridge.specs.declared.reading.outcome.ReadFault.{ReadFault}
 use Rattle.tt_data.specs.Forest.{Forest}
-use Rattle.expander_model.specs.Pieces.{pieces}
+use Rattle.expander_sources.specs.expander_model.Pieces.{pieces}
 use Rattle.expander_reparse.specs.RelativePieces.{IsOwnPiece, piece_at}
 use Rattle.expander_reparse.specs.declared.piece.Piece.{Piece}
 

@@ -4,4 +4,5 @@
 mod difference;
 mod text;
 
+pub use expander_sources;
 pub use text::PiecedText;

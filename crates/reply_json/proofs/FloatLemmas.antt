@@ -6,7 +6,7 @@ use Rattle.serde_json.specs.View.{items_of}
 use Rattle.serde_json.specs.Written.{has_float, items_have_float}
 use Rattle.bridge.specs.PrintedRanges.{read_ranges}
 use Rattle.expander_model.specs.declared.fault.Fault.{Fault}
-use Rattle.expander_session.specs.Expanded.{Expanded}
+use Rattle.expander_run.specs.expander_session.Expanded.{Expanded}
 use Rattle.call_json.specs.Places.{count}
 use Rattle.reply_json.specs.Lines.{ends_of, expansion, fault, origin_numbers}
 

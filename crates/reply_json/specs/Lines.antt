@@ -13,8 +13,8 @@ use Rattle.expander_model.specs.declared.fault.Fault.{Fault}
 use Rattle.expander_model.specs.declared.fault.FaultKind.{FaultKind}
 use Rattle.expander_model.specs.declared.fault.FaultKind.TheVariants as kinds
 use Rattle.expander_run.specs.Lines.{fault_words, read_fault_words, refusal_words}
-use Rattle.expander_scope.specs.declared.refusal.Refusal.{Refusal}
-use Rattle.expander_session.specs.Expanded.{Expanded}
+use Rattle.expander_run.specs.expander_session.expander_scope.declared.refusal.Refusal.{Refusal}
+use Rattle.expander_run.specs.expander_session.Expanded.{Expanded}
 
 -- what tells which form a line has, and the version of these forms
 abbrev pub answer : List ℕ → Members → Members

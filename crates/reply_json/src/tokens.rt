@@ -6,7 +6,7 @@ ghost use Rattle.call_json.specs.Places.{numbers};
 ghost use Rattle.reply_json.specs.Lines.{ends_of, origin_numbers};
 
 use call_json::push_number;
-use expander_session::session::Expansion;
+use expander_run::expander_session::session::Expansion;
 use serde_json::Value;
 use std::alloc::{AllocError, Global};
 

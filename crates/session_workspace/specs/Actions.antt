@@ -2,7 +2,7 @@
 use Rattle.std.specs.Prelude.{◌≡◌, ◌&&◌, ℕ, Bool, true, false, List, codes, length, ltb, nat_eq, string_bytes, Option, Some, None}
 use Rattle.serde_json.specs.Data.{Data, array, no_items, item, object, string, member, no_members}
 use Rattle.bridge.specs.declared.printing.printer.Printed.{Printed}
-use Rattle.call_expansion.specs.declared.answer.Called.{Called}
+use Rattle.step_report.specs.expander_trace.call_expansion.declared.answer.Called.{Called}
 use Rattle.session_workspace.specs.Layouts.{IsLaidOut}
 use Rattle.session_workspace.specs.Ranges.{range_data}
 

@@ -5,8 +5,8 @@ use Rattle.serde_json.specs.Data.{Data, null, object, string, member, no_members
 use Rattle.any_grammar.specs.Answer.{answer}
 use Rattle.any_grammar.specs.declared.chosen.AnyGrammar.{AnyGrammar}
 use Rattle.bridge.specs.declared.printing.printer.Printed.{Printed}
-use Rattle.call_expansion.specs.Texts.{NeedsTooMany, answer_in, answer_near, text_layers}
-use Rattle.call_expansion.specs.declared.answer.Called.{Called}
+use Rattle.step_report.specs.expander_trace.call_expansion.Texts.{NeedsTooMany, answer_in, answer_near, text_layers}
+use Rattle.step_report.specs.expander_trace.call_expansion.declared.answer.Called.{Called}
 use Rattle.expander_model.specs.declared.fault.FaultKind.{FaultKind}
 use Rattle.expander_run.specs.Lines.{fault_words}
 use Rattle.expander_session.specs.State.{State, definitions_of}

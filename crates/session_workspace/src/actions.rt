@@ -9,13 +9,13 @@ use crate::calls::call_at;
 use crate::ranges::{START, range_value};
 use any_grammar::AnyGrammar;
 use bridge::Printed;
-use call_expansion::answer::Called;
 use code_layout::layout_text;
 use expander_session::session::Session;
 use line_index::Position;
 use pieced_text::PiecedText;
 use serde_json::{Value, json};
 use std::alloc::{AllocError, Global};
+use step_report::expander_trace::call_expansion::answer::Called;
 
 fn edit_data(alloc: Global, uri: &str, range: Value, new: String) -> Result<Value, AllocError>
     ensures { IfOk result (λ v. view v ≡ edit_data uri.now (view range) (string_bytes new)) }

@@ -5,13 +5,13 @@ ghost use Rattle.session_workspace.specs.Questions.{IsSaidAt, IsSaidIn, NeedsToo
 ghost use Rattle.session_workspace.specs.Ranges.{byte_at};
 
 use any_grammar::AnyGrammar;
-use call_expansion::answer::Called;
-use call_expansion::piece_call::call_in_followed;
-use call_expansion::text_call::CallOptions;
 use expander_session::session::Session;
 use line_index::{Position, offset_of};
 use pieced_text::PiecedText;
 use std::alloc::{AllocError, Global};
+use step_report::expander_trace::call_expansion::answer::Called;
+use step_report::expander_trace::call_expansion::piece_call::call_in_followed;
+use step_report::expander_trace::call_expansion::text_call::CallOptions;
 use tt_data::TtFault;
 
 /// The byte at a position of a text.

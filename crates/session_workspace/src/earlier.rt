@@ -5,11 +5,11 @@ ghost use Rattle.session_workspace.specs.Questions.{IsSaidBefore};
 
 use crate::calls::{byte_at, call_in};
 use any_grammar::AnyGrammar;
-use call_expansion::answer::Called;
 use expander_session::session::Session;
 use line_index::Position;
 use pieced_text::PiecedText;
 use std::alloc::{AllocError, Global};
+use step_report::expander_trace::call_expansion::answer::Called;
 
 /// The byte of an earlier text that one of a newer text comes from: the same where all before it is
 /// the same in both, else as far from the end where all from it on is. `None` in what was replaced.

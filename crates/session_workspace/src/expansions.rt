@@ -14,7 +14,6 @@ use crate::earlier::earlier_call_at;
 use crate::open_text::OpenText;
 use crate::ranges::{START, range_value};
 use bridge::Printed;
-use call_expansion::answer::Called;
 use code_layout::layout_text;
 use expander_model::fault::FaultKind;
 use expander_run::lines::fault_words;
@@ -22,6 +21,7 @@ use line_index::Position;
 use pieced_text::PiecedText;
 use serde_json::{Value, json};
 use std::alloc::{AllocError, Global};
+use step_report::expander_trace::call_expansion::answer::Called;
 use tt_data::TextRange;
 
 const UNKNOWN: &str = "no definition of this macro is known here, or no rule of it fits";

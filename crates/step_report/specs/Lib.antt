@@ -23,3 +23,5 @@ pub mod Answers
 -- what the functions inside the crate promise each other
 pub mod NotesGiven
 pub mod Spots
+-- what crates above name too of those below
+pub use Rattle.expander_trace.specs as expander_trace

@@ -22,6 +22,7 @@ mod values;
 
 pub use answer::{Answer, Asked, Form, Lines, Question, answer_to};
 pub use context::Context;
+pub use expander_trace;
 pub use expander_trace::limits::Limits;
 pub use faults::one_stays;
 pub use json::push_json;

@@ -19,10 +19,10 @@ use Rattle.expander_model.specs.declared.fault.FaultKind.TheVariants.{CannotExpa
 use Rattle.expander_model.specs.Calls.{Path, bare, from_crate, other, Marked, none, token, inside, call, marked, unmarked, key_of}
 use Rattle.expander_model.specs.Changes.{outcome_with, Changes, ScopeChange}
 use Rattle.expander_model.specs.Definitions.{Definition, nearest}
-use Rattle.cfg_options.specs.Conditions.{or_else}
-use Rattle.cfg_options.specs.Options.{options_of}
-use Rattle.cfg_options.specs.Strings.{string_text}
-use Rattle.cfg_options.specs.declared.options.CfgOptions.{CfgOptions}
+use Rattle.expander_model.specs.cfg_options.Conditions.{or_else}
+use Rattle.expander_model.specs.cfg_options.Options.{options_of}
+use Rattle.expander_model.specs.cfg_options.Strings.{string_text}
+use Rattle.expander_model.specs.cfg_options.declared.options.CfgOptions.{CfgOptions}
 use Rattle.expander_model.proofs.ConditionPlaceLemmas.{left_out-with}
 use Rattle.expander_model.specs.Pieces.{cut}
 use Rattle.expander_model.specs.Expansion.{World, Outcome, CallSite, just, followed_by, grouped, faulted, found, bursting, stays, before_group}

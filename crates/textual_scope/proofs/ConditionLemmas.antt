@@ -8,7 +8,7 @@ use Rattle.tt_data.specs.declared.leaf.Leaf.TheVariants as as_leaf
 use Rattle.bridge.specs.Text.{is_char, same_kind}
 use Rattle.small_grammar.specs.Text.{◌>>◌}
 use Rattle.expander_model.specs.Definitions.{Definition, after_attribute, definition_of}
-use Rattle.cfg_options.specs.Conditions.{Options, attribute_keeps, is_kept}
+use Rattle.expander_model.specs.cfg_options.Conditions.{Options, attribute_keeps, is_kept}
 use Rattle.expander_model.specs.WholeItems.{is_whole_item, definition_under, is_configured_out}
 
 module _ (options : Options) (text : LiteralParts → Option (List ℕ)) where

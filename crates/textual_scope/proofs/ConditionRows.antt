@@ -4,7 +4,7 @@ use Rattle.std.specs.Prelude.{codes, ◌&&◌, ◌||◌}
 use Prim.Native.String.{String}
 use Rattle.tt_data.specs.Literals.{LiteralParts}
 use Rattle.small_grammar.specs.Text.{same_text}
-use Rattle.cfg_options.specs.Conditions.{Options, predicate_value, is_kept}
+use Rattle.expander_model.specs.cfg_options.Conditions.{Options, predicate_value, is_kept}
 use Rattle.expander_model.specs.WholeItems.{is_whole_item, is_configured_out}
 use Rattle.textual_scope.proofs.Lines.{trees}
 

@@ -15,7 +15,7 @@ use Rattle.tt_data.specs.declared.leaf.Leaf.TheVariants as as_leaf
 use Rattle.bridge.specs.Text.{same_kind, is_char, is_punct}
 use Rattle.expander_model.specs.Calls.{marked, unmarked}
 use Rattle.expander_model.specs.Definitions.{Definition, after_attributes, after_parenthesis, after_pub, definition_of, macro_of, macro_rules_of}
-use Rattle.cfg_options.specs.Conditions.{or_else}
+use Rattle.expander_model.specs.cfg_options.Conditions.{or_else}
 use Rattle.expander_model.specs.Faults.{is_definition_word}
 use Rattle.expander_model.specs.Pieces.{cut, cut_from, ends_piece}
 use Rattle.small_grammar.specs.Text.{has_text}

@@ -11,7 +11,7 @@ ghost use Rattle.expander_model.specs.Expansion.{CallSite, World, expansion, jus
 ghost use Rattle.expander_model.specs.Meaning.{Layers, meaning_in};
 ghost use Rattle.expander_model.specs.OtherPlaces.{definition_with};
 ghost use Rattle.expander_model.specs.Pieces.{pieces};
-ghost use Rattle.cfg_options.specs.Conditions.{Options};
+ghost use Rattle.expander_model.specs.cfg_options.Conditions.{Options};
 ghost use Rattle.expander_model.specs.WholeItems.{definition_under, is_configured_out};
 ghost use Rattle.textual_scope.specs.Keywords.{AddsNoKeyword, HasNoKeyword, NestsNone};
 ghost use Rattle.expander_model.specs.Limits.{Passed, noted, outermost, too_large, unnoted};

@@ -1,10 +1,10 @@
 //! What a call of a definition gives, within limits.
 ghost use Rattle.std.specs.Prelude.{◌≡◌, ◌-◌, ◌<◌, ℕ, true, IfOk, IfSome, OnOk, Option, Some};
 ghost use Rattle.std.specs.Prelude.{None, Err, is_some, option_map};
-ghost use Rattle.mbe.specs.Bursts as made_by;
-ghost use Rattle.mbe.specs.Macros.{rules_of};
-ghost use Rattle.mbe.specs.Markers.{is_name};
-ghost use Rattle.mbe.specs.PutOut as output;
+ghost use Rattle.expander_model.specs.mbe.Bursts as made_by;
+ghost use Rattle.expander_model.specs.mbe.Macros.{rules_of};
+ghost use Rattle.expander_model.specs.mbe.Markers.{is_name};
+ghost use Rattle.expander_model.specs.mbe.PutOut as output;
 ghost use Rattle.mbe_rules.specs.declared.macro_call_style.MacroCallStyle.TheVariants as style;
 ghost use Rattle.tt_data.specs.declared.edition.Edition.{Edition};
 ghost use Rattle.tt_data.specs.declared.span.Span.{Span};
@@ -21,7 +21,7 @@ use crate::environment::Environment;
 use crate::macro_def::MacroDef;
 use expander_model::fault::FaultKind;
 use expander_model::limits::Limits;
-use mbe::{Bounds, DeclarativeMacro, FragmentGrammar, MacroCallStyle, Tried};
+use expander_model::mbe::{Bounds, DeclarativeMacro, FragmentGrammar, MacroCallStyle, Tried};
 use std::alloc::Global;
 use tt::{TopSubtree, TtIter};
 use tt_data::{Delimiter, Span, SyntaxContext, TtFault};

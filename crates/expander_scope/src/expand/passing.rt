@@ -2,7 +2,7 @@
 ghost use Rattle.std.specs.Prelude.{◌≡◌, ◌-◌, ◌<◌, ℕ, ◌++◌, ◌∷◌, [], List, take, true, false};
 ghost use Rattle.std.specs.Prelude.{IfOk, IsOkUnless, OnOk, Option, Some, None, Err, is_some};
 ghost use Rattle.std.specs.Prelude.{if◌then◌else◌};
-ghost use Rattle.mbe.specs.Macros.{rules_of};
+ghost use Rattle.expander_model.specs.mbe.Macros.{rules_of};
 ghost use Rattle.tt_data.specs.Forest.{Forest, empty, joined};
 ghost use Rattle.tt_data.specs.Walk.{walk};
 ghost use Rattle.tt_data.specs.declared.edition.Edition.{Edition};
@@ -37,8 +37,8 @@ use expander_model::call::{Call, call_at};
 use expander_model::definition::definition_of;
 use expander_model::dialect::Dialect;
 use expander_model::fault::FaultKind;
+use expander_model::mbe::FragmentGrammar;
 use expander_model::scope_rules::Standing;
-use mbe::FragmentGrammar;
 use std::alloc::{AllocError, Global};
 use std::rc::Rc;
 use tt::TtIter;

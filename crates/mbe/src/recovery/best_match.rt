@@ -2,9 +2,11 @@
 use crate::recovery::messages::{fault_at, partial_at};
 use crate::recovery::values::{Partial, Values};
 use bumpalo::Bump;
-use fragment_grammar::FragmentGrammar;
-use mbe_matcher::{Choice, Consumed, Entry, Place, Seen, SeenStates, Thread, bindings_of};
 use mbe_rules::{ExpandError, ExpandErrorKind, Op};
+use mbe_transcriber::mbe_matcher::fragment_grammar::FragmentGrammar;
+use mbe_transcriber::mbe_matcher::{
+    Choice, Consumed, Entry, Place, Seen, SeenStates, Thread, bindings_of,
+};
 use std::alloc::{AllocError, Global};
 use tt::{DelimSpan, Span, TokenTreesView, TtFault};
 

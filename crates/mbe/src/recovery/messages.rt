@@ -1,8 +1,8 @@
 //! The error for an op of a matcher that the argument does not have.
 use crate::recovery::values::Partial;
-use fragment_grammar::{FragmentGrammar, PrefixEntryPoint};
-use mbe_matcher::{is_refused, is_refused_2021, pass_fragment};
 use mbe_rules::{ExpandErrorKind, MetaVarKind, Op};
+use mbe_transcriber::mbe_matcher::fragment_grammar::{FragmentGrammar, PrefixEntryPoint};
+use mbe_transcriber::mbe_matcher::{is_refused, is_refused_2021, pass_fragment};
 use std::alloc::Global;
 use symbols::Symbol;
 use tt::{Leaf, Punct, TokenTreesView, TtElement, TtFault, TtIter};

@@ -1,6 +1,6 @@
 //! The values of a matcher's metavariables where it does not match.
-use mbe_matcher::{Binding, Bindings};
 use mbe_rules::MetaVarKind;
+use mbe_transcriber::mbe_matcher::{Binding, Bindings};
 use std::alloc::AllocError;
 use symbols::Symbol;
 use tt::TokenTreesView;

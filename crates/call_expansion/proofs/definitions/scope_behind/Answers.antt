@@ -2,8 +2,8 @@ use Rattle.std.proofs.Common.{◌≡◌, ◌∙◌, ◌+◌, List, [], ap, subst
 use Rattle.tt_data.specs.Forest.{Forest}
 use Rattle.expander_model.specs.Definitions.{definition_of}
 use Rattle.expander_model.specs.Meaning.{definitions_after, with_definition}
-use Rattle.expander_sources.specs.Imports.{import_piece, import_pieces}
-use Rattle.expander_sources.specs.declared.import.Import.{Import}
+use Rattle.pieced_text.specs.expander_sources.Imports.{import_piece, import_pieces}
+use Rattle.pieced_text.specs.expander_sources.declared.import.Import.{Import}
 use Rattle.call_expansion.specs.InScope.{HasInScope}
 use Rattle.call_expansion.proofs.ListLemmas.{mapped_more, taken_all}
 use Rattle.call_expansion.proofs.ScopeLemmas.{after_more}

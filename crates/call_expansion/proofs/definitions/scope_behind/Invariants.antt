@@ -1,7 +1,7 @@
 use Rattle.std.proofs.Common.{◌≡◌, [], take}
 use Rattle.expander_model.specs.Meaning.{definitions_after}
 use Rattle.expander_scope.specs.ScopeTable.{AreRead}
-use Rattle.expander_sources.specs.Imports.{import_pieces}
+use Rattle.pieced_text.specs.expander_sources.Imports.{import_pieces}
 use Rattle.call_expansion.specs.InScope.{HasInScope}
 use Rattle.call_expansion.proofs.definitions.scope_behind.Given as goal
 

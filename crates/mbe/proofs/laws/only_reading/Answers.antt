@@ -1,4 +1,4 @@
-use Rattle.mbe_matcher.proofs.MatchingLemmas.{the_reading-only}
+use Rattle.mbe_transcriber.proofs.MatchingLemmas.{the_reading-only}
 use Rattle.mbe.proofs.laws.only_reading.Goals as goal
 
 pub returns : goal.returns

@@ -3,7 +3,7 @@ use Rattle.std.proofs.Common.{◌≡◌, sym, ap, subst, ◌∙◌, ℕ, ◌<◌
 use Rattle.std.specs.Prelude.{unwrap_or}
 use Rattle.tt.specs.Building.{count_of}
 use Rattle.mbe_rules.specs.Ops.{items_of}
-use Rattle.mbe_matcher.specs.Bound.{map_of}
+use Rattle.mbe_transcriber.specs.mbe_matcher.Bound.{map_of}
 use Rattle.mbe_transcriber.specs.Given.{PutsOutWithin}
 use Rattle.mbe_transcriber.specs.Limits.{most_rounds}
 use Rattle.mbe_transcriber.specs.Markers.{is_name}

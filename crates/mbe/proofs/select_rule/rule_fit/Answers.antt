@@ -3,13 +3,13 @@ use Rattle.std.proofs.Common.{sym, ap, ◌∙◌, [], Some, option_map, option_a
 use Rattle.tt.specs.Views.{forest}
 use Rattle.mbe_rules.specs.Ops.{items_of, rule_of}
 use Rattle.mbe.specs.Answers.{within}
-use Rattle.mbe_matcher.specs.Bindings.{bindings}
-use Rattle.mbe_matcher.specs.Blocked.{is_blocked}
+use Rattle.mbe_transcriber.specs.mbe_matcher.Bindings.{bindings}
+use Rattle.mbe_transcriber.specs.mbe_matcher.Blocked.{is_blocked}
 use Rattle.mbe_transcriber.specs.Filling.{filled}
 use Rattle.mbe_transcriber.specs.Limits.{most_rounds}
 use Rattle.mbe_transcriber.specs.Markers.{is_name}
-use Rattle.mbe_matcher.specs.Units.{place}
-use Rattle.mbe_matcher.proofs.BlockedLemmas.{none-read}
+use Rattle.mbe_transcriber.specs.mbe_matcher.Units.{place}
+use Rattle.mbe_transcriber.proofs.BlockedLemmas.{none-read}
 use Rattle.mbe.specs.PutOut.{left_of, template_output}
 use Rattle.mbe.specs.declared.select_rule.Tried.{Tried}
 use Rattle.mbe.proofs.LeftLemmas.{left_nothing}

@@ -2,7 +2,7 @@
 use Rattle.std.proofs.Common.{◌≡◌, rules, subst, IfOk, IfSome, option_map}
 use Rattle.tt.specs.Views.{forest}
 use Rattle.mbe_rules.specs.Ops.{items_of, rule_of}
-use Rattle.mbe_matcher.specs.Bound.{map_of}
+use Rattle.mbe_transcriber.specs.mbe_matcher.Bound.{map_of}
 use Rattle.mbe_transcriber.specs.Filling.{filled}
 use Rattle.mbe_transcriber.specs.Limits.{most_rounds}
 use Rattle.mbe_transcriber.specs.Markers.{is_name}

@@ -1,6 +1,6 @@
 use Rattle.std.proofs.Common.{◌≡◌, sym, subst, rules, true, false, IfOk, IfSome, Err, option_map, None}
 use Rattle.tt.specs.Views.{forest}
-use Rattle.mbe_matcher.specs.Readings.{the_reading}
+use Rattle.mbe_transcriber.specs.mbe_matcher.Readings.{the_reading}
 use Rattle.mbe_rules.specs.Ops.{rule_of}
 use Rattle.mbe.specs.Answers.{within}
 use Rattle.mbe.specs.Bursts.{template_bursts}

@@ -1,7 +1,7 @@
 use Rattle.std.proofs.Common.{subst}
 use Rattle.tt.specs.Views.{forest}
 use Rattle.mbe.specs.Macros.{rules_of}
-use Rattle.mbe_transcriber.specs.Markers.{is_name}
+use Rattle.mbe.specs.mbe_transcriber.Markers.{is_name}
 use Rattle.mbe_explain.specs.Rules.{AreTold, of_style}
 use Rattle.mbe_explain.proofs.RulesLemmas.{first-fits}
 use Rattle.mbe_explain.proofs.rules.explain_call.Goals as goal

@@ -4,7 +4,7 @@ use Rattle.tt.specs.Views.{forest}
 use Rattle.tt_data.specs.declared.span.Span.{Span}
 use Rattle.tt_data.specs.fault.TtFault.TheVariants.{Tokens}
 use Rattle.mbe_rules.specs.Ops.{rule_of}
-use Rattle.mbe_transcriber.specs.Markers.{is_name}
+use Rattle.mbe.specs.mbe_transcriber.Markers.{is_name}
 use Rattle.mbe.specs.Answers.{within}
 use Rattle.mbe.specs.Fit.{rule_fit}
 use Rattle.mbe_explain.proofs.FilledLemmas.{alike-mapped, fits-alike}

@@ -1,7 +1,7 @@
 use Rattle.std.proofs.Common.{◌≡◌, sym, subst, ◌∙◌, refl, true, false}
 use Rattle.tt.specs.Views.{forest}
 use Rattle.mbe_rules.specs.Ops.{items_of, rule_of}
-use Rattle.mbe_transcriber.specs.Markers.{is_name}
+use Rattle.mbe.specs.mbe_transcriber.Markers.{is_name}
 use Rattle.mbe_explain.specs.Rules.{IsStop}
 use Rattle.mbe_explain.proofs.FilledLemmas.{unfit-unread}
 use Rattle.mbe_explain.proofs.rules.rule_stop.Goals as goal

@@ -3,7 +3,7 @@ use Rattle.tt.specs.Views.{forest}
 use Rattle.tt_data.specs.fault.TtFault.TheVariants.{Tokens}
 use Rattle.mbe_rules.specs.Items.{has_empty_round}
 use Rattle.mbe_rules.specs.Ops.{rule_of}
-use Rattle.mbe_transcriber.specs.Markers.{is_name}
+use Rattle.mbe.specs.mbe_transcriber.Markers.{is_name}
 use Rattle.mbe.proofs.FirstFitLemmas.{none-at}
 use Rattle.mbe.specs.Bursts.{rule_bursts}
 use Rattle.mbe.specs.Fit.{same_style}

@@ -1,5 +1,5 @@
 use Rattle.tt.specs.Views.{forest}
-use Rattle.mbe_transcriber.specs.Markers.{is_name}
+use Rattle.mbe.specs.mbe_transcriber.Markers.{is_name}
 use Rattle.mbe_explain.proofs.RulesLemmas.{ToldFrom}
 use Rattle.mbe_explain.proofs.rules.rule_stops.Given as goal
 

@@ -4,10 +4,10 @@ use Rattle.std.specs.Prelude.{Option, Some, None, option_map}
 use Rattle.tt.specs.Tops.{Top}
 use Rattle.tt_data.specs.Forest.{Forest}
 use Rattle.tt_data.specs.declared.delimiter.Delimiter.{Delimiter}
-use Rattle.mbe.specs.Answers.{within}
-use Rattle.mbe.specs.PutOut as output
-use Rattle.mbe.specs.Macros.{rules_of}
-use Rattle.mbe.specs.Markers.{is_name}
+use Rattle.expander_model.specs.mbe.Answers.{within}
+use Rattle.expander_model.specs.mbe.PutOut as output
+use Rattle.expander_model.specs.mbe.Macros.{rules_of}
+use Rattle.expander_model.specs.mbe.Markers.{is_name}
 use Rattle.mbe_rules.specs.declared.macro_call_style.MacroCallStyle.TheVariants.{FnLike}
 use Rattle.expander_model.specs.Limits.{calls_of, sized}
 use Rattle.expander_model.specs.World.{fit_of, made}

@@ -1,7 +1,7 @@
 use Rattle.std.proofs.Common.{◌≡◌, ◌∙◌, ap, refl, subst, sym, if◌then◌else◌, []}
 use Rattle.std.specs.Prelude.{is_some, unwrap_or}
 use Rattle.tt_data.specs.Walk.{walk}
-use Rattle.mbe.specs.Macros.{rules_of}
+use Rattle.expander_model.specs.mbe.Macros.{rules_of}
 use Rattle.expander_model.specs.Definitions.{Definition}
 use Rattle.expander_model.specs.Held.{anchored_definition, unnumbered}
 use Rattle.expander_model.specs.Scoping.{is_left_out}
