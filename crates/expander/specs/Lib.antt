@@ -38,4 +38,3 @@ pub mod SessionCalls
 -- which options words set
 pub mod NamedOptions
 -- what crates above name too of those below
-pub use Rattle.expander_run.specs as expander_run

@@ -1,5 +1,3 @@
-mod CommandLemmas
-mod CommandRows
 mod ConditionLemmas
 mod ConditionRows
 mod WarningLemmas

@@ -2,20 +2,20 @@
 ghost use Rattle.std.specs.Prelude.{◌<◌, ◌^◌, length};
 
 use crate::conditions::{cfg_of, under};
-use crate::job::{Action, Job};
 use crate::layout::{Run, laid_out, run_in_memory};
 use crate::view::reply_of;
 use crate::warnings::warn;
 use any_grammar::AnyGrammar;
 use cfg_options::CfgOptions;
+use command_line::{Action, Job};
 use crate_walk::{Content, Event, FileText};
 use expander::{Expansion, Options, Prelude, Refusal, Reply, Watched};
 use expander_run::lines::{read_fault_words, refusal_words};
 use expander_run::program::put;
 use program_files::{
-    Chosen, Disk, Ended, Expands, Whole, chosen_files, code_in, fault_lines, fault_words,
-    file_text, listed, misused, opened, prelude_of_file, push_shown, refusal, refused, tell_lacks,
-    tell_written, whole_from,
+    Chosen, Disk, Ended, Expands, OtherWords, Whole, chosen_files, code_in, fault_lines,
+    fault_words, file_text, listed, misused, opened, prelude_of_file, push_shown, refusal, refused,
+    tell_lacks, tell_written, whole_from,
 };
 use std::alloc::{AllocError, Global};
 use std::process::ExitCode;
@@ -23,6 +23,15 @@ use std::{env, io};
 
 // How many levels of calls are expanded where it is asked which modules calls hand on.
 const MOST_LEVELS: u8 = 128;
+
+/// The words of a job for what else is read.
+pub(crate) fn other_words<'a>(job: &'a Job<'_>) -> OtherWords<'a> {
+    OtherWords {
+        library: job.library,
+        with: job.with.as_slice(),
+        externs: job.externs.as_slice(),
+    }
+}
 
 /// The set of the options that a job's words for `cfg` name: an empty one without a word.
 pub(crate) fn set_of(rt: &HostRuntime, job: &Job<'_>) -> Result<CfgOptions, Ended> {
@@ -332,7 +341,7 @@ pub(crate) fn walked(
     disk: &Disk<'_>,
     root: &str,
 ) -> Result<Whole, Ended> {
-    let whole = whole_from(rt, job.others(), disk, root, &CrateTexts { rt, job })?;
+    let whole = whole_from(rt, other_words(job), disk, root, &CrateTexts { rt, job })?;
     let folder = folder_of(rt)?;
     tell_lacks(rt, &whole.walked.modules, folder.as_str())?;
     tell_written(rt, &whole, folder.as_str())?;

@@ -4,16 +4,13 @@
 #![tactic(auto)]
 
 mod call;
-mod command;
 mod conditions;
 mod crates;
 mod explain;
-mod job;
 mod json;
 mod layout;
 mod open_files;
 mod place;
-mod request;
 mod server;
 mod trace;
 mod uri;
@@ -22,9 +19,9 @@ mod warned;
 mod warnings;
 mod work;
 
-use crate::request::{Request, request_of};
 use crate::work::perform;
-use program_files::misused;
+use command_line::{Request, request_of};
+use program_files::{misused, one_line};
 use std::process::ExitCode;
 use std::{env, io};
 
@@ -48,8 +45,9 @@ fn answer_words(rt: &HostRuntime) -> io::Result<ExitCode> {
             print!(rt; "{text}")?;
             Ok(ExitCode::SUCCESS)
         }
-        Request::Misuse(message) => {
-            eprintln!(rt; "filgordd: {message}")?;
+        Request::Misuse(why) => {
+            let line = one_line(rt.alloc(), why.as_str())?;
+            eprintln!(rt; "filgordd: {line}")?;
             Ok(ExitCode::from(2))
         }
     }

@@ -1,5 +1,5 @@
 //! The place in a file that a word names.
-use crate::job::Action;
+use command_line::Action;
 use source_snippet::{Line, line_at};
 use tt_data::TextRange;
 

@@ -1,12 +1,12 @@
 //! Serves an editor on the program's streams.
 
 use crate::conditions::{cfg_of, under};
-use crate::crates::{CrateTexts, set_of, walked};
-use crate::job::{Diagnostics, Job};
+use crate::crates::{CrateTexts, other_words, set_of, walked};
 use crate::open_files::OpenFiles;
 use crate::uri::path_of;
 use any_grammar::AnyGrammar;
 use cfg_options::CfgOptions;
+use command_line::{Diagnostics, Job};
 use crate_walk::Files;
 use expander::{Options, Prelude};
 use program_files::{
@@ -160,7 +160,7 @@ pub(crate) fn serve_editor(rt: &HostRuntime, job: &Job<'_>) -> Result<ExitCode, 
     let disk = Disk { rt, options: &set };
     let given = match job.root {
         Some(root) => Given::Crate(walked(rt, job, &disk, root)?),
-        None => Given::Sources(sources_of(rt, job.others())?),
+        None => Given::Sources(sources_of(rt, other_words(job))?),
     };
     let texts = Texts {
         rt,

@@ -2,9 +2,8 @@
 
 use crate::call::expand_call;
 use crate::conditions::{cfg_of, under};
-use crate::crates::perform_crate;
+use crate::crates::{other_words, perform_crate};
 use crate::explain::explain;
-use crate::job::{Action, Job};
 use crate::json::{Asked, answer_as_json};
 use crate::layout::expand_in_lines;
 use crate::place::{Place, named_place};
@@ -14,6 +13,7 @@ use crate::view::view;
 use crate::warnings::warn;
 use any_grammar::AnyGrammar;
 use cfg_options::CfgOptions;
+use command_line::{Action, Job};
 use expander::{Options, Prelude, Status, Watched, run_after};
 use program_files::{Ended, Others, blank_front, misused, opened, others_of, read_whole, stopped};
 use replay_script::{Answered, End, Form, answer_script, wrong_words};
@@ -283,7 +283,7 @@ pub(crate) fn perform(rt: &HostRuntime, job: Job<'_>) -> io::Result<ExitCode> {
         Ok(cfg) => cfg,
         Err(word) => return misused(rt, word, &"no option for cfg"),
     };
-    match others_of(rt, job.others()) {
+    match others_of(rt, other_words(&job)) {
         Ok(others) => work(rt, job, cfg, others),
         Err(Ended::Status(status)) => Ok(status),
         Err(Ended::Failed(error)) => Err(error),

@@ -7,7 +7,7 @@ use Rattle.std.proofs.lemmas.Bool.{cases_lt}
 use Rattle.std.proofs.lemmas.Bool.Decides.{nat_tests}
 use Rattle.bridge.specs.PrintedRanges.{read_ranges}
 use Rattle.crate_walk.specs.WholeTexts.{has_semicolon}
-use Rattle.expander.specs.Expanded.{Expanded}
+use Rattle.expander_run.specs.expander_session.Expanded.{Expanded}
 use Rattle.tt_data.specs.declared.span.TextRange.{TextRange}
 use Rattle.program_files.specs.EndsFound.{IsBefore, IsEndAmong, end_after, is_at}
 use Rattle.program_files.specs.ModuleEnds.{ComesFrom, IsEnd, IsEndBehind}

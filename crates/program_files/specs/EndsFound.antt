@@ -1,7 +1,7 @@
 -- Ends of modules, as they are found token by token.
 use Rattle.std.specs.Prelude.{◌≡◌, ℕ, ◌+◌, ◌<◌, Bool, false, ◌&&◌, nat_eq, List, Option, Some, None, if◌then◌else◌}
 use Rattle.crate_walk.specs.WholeTexts.{has_semicolon}
-use Rattle.expander.specs.Expanded.{Expanded}
+use Rattle.expander_run.specs.expander_session.Expanded.{Expanded}
 use Rattle.program_files.specs.ModuleEnds.{ComesFrom, IsEndBehind}
 
 -- a token that comes from the text may come from this offset

@@ -5,7 +5,7 @@ use Rattle.bridge.specs.PrintedRanges.{read_ranges}
 use Rattle.crate_walk.specs.WholeTexts.{has_semicolon}
 use Rattle.crate_walk.specs.declared.event.Event.{Event}
 use Rattle.crate_walk.specs.declared.event.Event.TheVariants as event
-use Rattle.expander.specs.Expanded.{Expanded}
+use Rattle.expander_run.specs.expander_session.Expanded.{Expanded}
 use Rattle.tt_data.specs.declared.span.TextRange.{TextRange}
 
 -- the printed token of this index comes from this offset of the text

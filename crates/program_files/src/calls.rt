@@ -12,9 +12,11 @@ use crate::whole::{Whole, prelude_of_file};
 use cfg_options::CfgOptions;
 use crate_items::{Extents, Outline, content_of, content_of_bytes, extents_of, open_calls};
 use crate_walk::{Content, Files, Modules};
-use expander::{Expansion, Prelude, TextRange};
+use expander_run::expander_session::session::Expansion;
+use expander_sources::prelude::Prelude;
 use std::alloc::{AllocError, Global};
 use std::collections::BTreeMap;
+use tt_data::TextRange;
 
 /// Expands the texts of a crate's files.
 pub trait Expands {

@@ -7,7 +7,8 @@ use crate::load::Ended;
 use crate::other::{Other, other_of};
 use crate::walked::{Walked, crate_from};
 use crate_walk::{Event, ImportItem};
-use expander::{Home, Prelude};
+use expander_sources::home::Home;
+use expander_sources::prelude::Prelude;
 use std::alloc::{AllocError, Global};
 use tt_data::TtFault;
 

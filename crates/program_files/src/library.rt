@@ -1,6 +1,6 @@
 //! The files of an installed library in which its macros are defined.
 use crate_picks::edition_of;
-use expander::Edition;
+use tt_data::Edition;
 
 /// The crates of the library.
 pub(crate) static CRATES: [&str; 3] = ["core", "alloc", "std"];

@@ -9,7 +9,7 @@ use crate::shown::push_shown;
 use crate::spots::{Spot, Spots};
 use crate::whole::{Whole, brings_all};
 use crate_walk::{Event, MacroItem, ModuleItem, Modules, Place};
-use expander::Source;
+use expander_sources::source::Source;
 use std::alloc::{AllocError, Global};
 
 /// Lines for definitions: the name of each, where it is, and where it comes from.

@@ -6,12 +6,15 @@ use crate::library::{CRATES, FILES, edition_in};
 use crate::other::{Other, other_of};
 use crate::picks::push_before;
 use crate::source::blank_front;
-use expander::lines::{FIRST, push_line, read_fault_words, spot_of};
-use expander::{Edition, Home, Prelude, ReadFault, Source, SourceRead};
+use bridge::ReadFault;
+use expander_run::lines::{FIRST, push_line, read_fault_words, spot_of};
+use expander_sources::home::Home;
+use expander_sources::prelude::Prelude;
+use expander_sources::source::{Source, SourceRead};
 use std::alloc::{AllocError, AllocFailed, Global};
 use std::process::ExitCode;
 use std::{fs, io};
-use tt_data::TtFault;
+use tt_data::{Edition, TtFault};
 
 /// The words for what else is read: all but the texts that work is done on.
 #[derive(Clone, Copy, Drop)]

@@ -3,16 +3,17 @@ ghost use Rattle.std.specs.Prelude.{◌≡◌, ◌<◌, ◌^◌, ℕ, IfNone, If
 ghost use Rattle.std.specs.BTreeMap.{get};
 ghost use Rattle.std.specs.List.{AllZip};
 ghost use Rattle.std.specs.Ordering.{nat_cmp};
-ghost use Rattle.expander.specs.Expanded.{Expanded};
+ghost use Rattle.expander_run.specs.expander_session.Expanded.{Expanded};
 ghost use Rattle.bridge.specs.PrintedRanges.{read_ranges};
 ghost use Rattle.crate_walk.specs.WholeTexts.{has_semicolon};
 ghost use Rattle.program_files.specs.EndsFound.{end_after};
 ghost use Rattle.program_files.specs.ModuleEnds.{ComesFrom, IsEnd, IsEndOf};
 
 use crate_walk::{Event, FileText};
-use expander::{Expansion, TextRange};
+use expander_run::expander_session::session::Expansion;
 use std::alloc::{AllocError, Global};
 use std::collections::BTreeMap;
+use tt_data::TextRange;
 
 // Where the printed token of this index begins in the text, if it comes from there.
 fn own_start(expansion: &Expansion, i: usize) -> Option<u32>

@@ -3,7 +3,7 @@ ghost use Rattle.std.specs.Prelude.{◌≡◌, option_map, IfOk};
 ghost use Rattle.program_files.specs.Others.{Meant, parts_of};
 
 use crate_picks::edition_of;
-use expander::Home;
+use expander_sources::home::Home;
 use std::alloc::{AllocError, Global};
 
 /// What a word names.

@@ -5,7 +5,9 @@ ghost use Rattle.program_files.specs.Picking.{exports_of, is_exported, is_of, pi
 ghost use Rattle.crate_picks.specs.SourcePicks.{picks_of_source};
 
 use crate_picks::push_source;
-use expander::{Home, Prelude, Source};
+use expander_sources::home::Home;
+use expander_sources::prelude::Prelude;
+use expander_sources::source::Source;
 use std::alloc::Global;
 use tt_data::TtFault;
 

@@ -1,9 +1,11 @@
 //! A definition under another name.
 
 use crate_picks::Definitions;
-use expander::{Home, Prelude, Source, SourceRead, TextRange};
+use expander_sources::home::Home;
+use expander_sources::prelude::Prelude;
+use expander_sources::source::{Source, SourceRead};
 use std::alloc::{AllocError, Global};
-use tt_data::TtFault;
+use tt_data::{TextRange, TtFault};
 
 /// The same home.
 pub(crate) fn home_of(alloc: Global, home: Option<&Home>) -> Result<Option<Home>, AllocError> {

@@ -7,7 +7,7 @@ use crate::renamed::home_of;
 use crate::same::same_sources;
 use crate::source::code_of;
 use crate_walk::Files;
-use expander::{Source, SourceRead};
+use expander_sources::source::{Source, SourceRead};
 use std::alloc::{AllocError, Global};
 use tt_data::TtFault;
 

@@ -4,7 +4,7 @@ use crate::lacking::text_of;
 use crate::walked::Walked;
 use crate_picks::Definitions;
 use crate_walk::{Content, CrateItem, Event, ImportItem, MacroItem, ModuleItem};
-use expander::Source;
+use expander_sources::source::Source;
 
 fn same_module(a: &ModuleItem, b: &ModuleItem) -> bool {
     a.name == b.name && a.path == b.path && a.keeps_macros == b.keeps_macros

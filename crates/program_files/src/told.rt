@@ -2,8 +2,8 @@
 ghost use Rattle.std.specs.Prelude.{◌<◌, ◌^◌, length};
 
 use crate::shown::push_shown;
-use expander::Fault;
-use expander::lines::{FIRST, fault_words, push_line, spot_of};
+use expander_model::fault::Fault;
+use expander_run::lines::{FIRST, fault_words, push_line, spot_of};
 use std::alloc::{AllocError, Global};
 
 /// A line for each fault of a text, with the name of its file in front.

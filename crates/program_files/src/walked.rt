@@ -14,7 +14,9 @@ use crate_picks::{Definitions, FilePicks, push_places};
 use crate_walk::{
     Content, Event, FileText, Files, MacroItem, Modules, joined, textual_picks, walk_crate,
 };
-use expander::{Home, Prelude, Source, SourceRead};
+use expander_sources::home::Home;
+use expander_sources::prelude::Prelude;
+use expander_sources::source::{Source, SourceRead};
 use std::alloc::{AllocError, Global};
 use std::process::ExitCode;
 use tt_data::TtFault;

@@ -10,7 +10,7 @@ use crate::replaced::Replaced;
 use crate::walked::{Walked, definitions_of};
 use crate_picks::{Definitions, push_places};
 use crate_walk::{Content, Event, Modules, Place};
-use expander::Prelude;
+use expander_sources::prelude::Prelude;
 use std::alloc::{AllocError, Global};
 use tt_data::TtFault;
 

@@ -1,5 +1,5 @@
 use Rattle.std.proofs.Common.{ℕ, List, subst}
-use Rattle.expander.specs.expander_run.Spots.{IsSpot}
+use Rattle.expander_run.specs.Spots.{IsSpot}
 use Rattle.program_files.proofs.told.fault_lines.Goals as goal
 
 pub loop-fault-preserved : goal.loop-fault-preserved

@@ -1,4 +1,4 @@
-use Rattle.expander.specs.expander_run.Spots.{IsSpot}
+use Rattle.expander_run.specs.Spots.{IsSpot}
 use Rattle.program_files.proofs.told.fault_lines.Given as goal
 
 abbrev pub invariant-loop-fault : goal.invariant-loop-fault

@@ -1,0 +1,3 @@
+-- what the words of a command line ask for
+pub mod Choices
+pub mod Commands
