@@ -12,6 +12,7 @@ mod layout;
 mod open_files;
 mod place;
 mod server;
+mod start;
 mod trace;
 mod uri;
 mod view;

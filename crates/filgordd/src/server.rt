@@ -3,18 +3,21 @@
 use crate::conditions::{cfg_of, under};
 use crate::crates::{CrateTexts, other_words, set_of, walked};
 use crate::open_files::OpenFiles;
+use crate::start::{root_in, started};
 use crate::uri::path_of;
 use any_grammar::AnyGrammar;
 use cfg_options::CfgOptions;
 use command_line::{Diagnostics, Job};
 use crate_walk::Files;
 use expander::{Options, Prelude};
+use lsp_server::{First, Stop, read_first};
 use program_files::{
     Disk, Ended, Origin, Sources, Whole, names_of, names_of_whole, origin_of, origin_of_whole,
     prelude_of, prelude_of_path, replace_source, replace_text, sources_of, stopped,
 };
 use session_workspace::{Elsewhere, Setup, Shown, end_words, serve_texts};
 use std::alloc::{AllocError, Global};
+use std::io::Read;
 use std::process::ExitCode;
 use tt_data::{TextRange, TtFault};
 
@@ -141,37 +144,59 @@ impl Setup for Texts<'_> {
     }
 }
 
-// Serves an editor, by the crate `session_workspace`, and reports why that ended if it did not ask
-// to shut down.
-fn serve(rt: &HostRuntime, texts: Texts<'_>, shown: Shown) -> Result<ExitCode, Ended> {
-    let mut reader = rt.stdin();
-    let mut writer = rt.stdout();
-    let end = serve_texts(rt.alloc(), &mut reader, &mut writer, texts, shown);
+// What a run comes to: its status, reported where the editor did not ask to shut down.
+fn status_of(rt: &HostRuntime, end: Result<bool, Stop>) -> Result<ExitCode, Ended> {
     match end_words(end) {
         None => Ok(ExitCode::SUCCESS),
         Some(why) => Ok(stopped(rt, why)?),
     }
 }
 
-/// Serves an editor by a job. The status is 0 only if the editor asked to shut down, and 2 where a
-/// word for `cfg` names no option, or a file cannot be read.
-pub(crate) fn serve_editor(rt: &HostRuntime, job: &Job<'_>) -> Result<ExitCode, Ended> {
-    let set = set_of(rt, job)?;
-    let disk = Disk { rt, options: &set };
+// By what an editor's texts are expanded, by a job whose options for `cfg` are in this set.
+fn texts_of<'a>(
+    rt: &'a HostRuntime,
+    job: &'a Job<'a>,
+    set: &'a CfgOptions,
+) -> Result<Texts<'a>, Ended> {
+    let disk = Disk { rt, options: set };
     let given = match job.root {
         Some(root) => Given::Crate(walked(rt, job, &disk, root)?),
         None => Given::Sources(sources_of(rt, other_words(job))?),
     };
-    let texts = Texts {
+    Ok(Texts {
         rt,
         job,
         disk,
         given,
         open: OpenFiles::new(rt.alloc()),
-    };
+    })
+}
+
+// Serves an editor by a job, on this input.
+fn serve<R: Read>(rt: &HostRuntime, job: &Job<'_>, reader: &mut R) -> Result<ExitCode, Ended> {
+    let set = set_of(rt, job)?;
+    let texts = texts_of(rt, job, &set)?;
     let shown = match job.diagnostics {
         Diagnostics::Nothing => Shown::Nothing,
         _ => Shown::All,
     };
-    serve(rt, texts, shown)
+    let mut writer = rt.stdout();
+    let end = serve_texts(rt.alloc(), reader, &mut writer, texts, shown);
+    status_of(rt, end)
+}
+
+/// Serves an editor by a job, and by what its first message says in place of the job's words. The
+/// status is 0 only if the editor asked to shut down, and 2 where a word for `cfg` names no option,
+/// a word no edition, or a file cannot be read.
+pub(crate) fn serve_editor(rt: &HostRuntime, job: &Job<'_>) -> Result<ExitCode, Ended> {
+    let mut input = rt.stdin();
+    let First { bytes, message } = match read_first(rt.alloc(), &mut input) {
+        Ok(first) => first,
+        Err(stop) => return status_of(rt, Err(stop)),
+    };
+    let root = root_in(rt, message.as_ref())?;
+    let root = root.as_ref().map(String::as_str);
+    let own = started(rt, job, message.as_ref(), root)?;
+    let mut reader = bytes.as_slice().chain(input);
+    serve(rt, &own, &mut reader)
 }

@@ -5,7 +5,7 @@ use Rattle.serde_json.specs.Data.{Data, depth}
 use Rattle.serde_json.specs.Read.{max_depth, read}
 use Rattle.serde_json.specs.Written.{compact_text, has_float}
 use Rattle.rpc_messages.specs.Messages.{answered}
-use Rattle.rpc_frames.specs.Frames.{Frame, framed}
+use Rattle.rpc_frames.specs.Frames.{Frame, IsFrame, bytes_of, framed}
 use Rattle.rpc_frames.specs.Streams.{AreFrames, stream_of}
 use Rattle.client_texts.specs.Texts.{Document}
 use Rattle.lsp_server.specs.Steps.{Reads, Serving, Steps, asked_of}
@@ -72,3 +72,19 @@ pub record Served {W : Type 0} (documents : W → List Document) (old new : Serv
   pub texts : List (List ℕ)
   pub prints : PrintAll (all_of outs) texts
   pub went : goes (flat_map framed texts)
+
+-- ---- the first message
+
+-- these bytes begin with a frame that has this body
+pub record BeginsWithBody (bytes body : List ℕ) : Type 0 where
+  pub frame : Frame
+  pub is : IsFrame frame
+  pub has : frame.body ≡ body
+  pub rest : List ℕ
+  pub cut : bytes ≡ bytes_of frame ++ rest
+
+-- these bytes begin with a frame, whose body is this message
+pub record BeginsWith (bytes : List ℕ) (message : Data) : Type 0 where
+  pub body : List ℕ
+  pub begins : BeginsWithBody bytes body
+  pub reads : Reads body (Some message)

@@ -4,12 +4,14 @@
 
 mod capabilities;
 mod errors;
+mod first;
 mod method;
 mod phase;
 mod run;
 mod server;
 mod workspace;
 
+pub use first::{First, read_first};
 pub use method::Method;
 pub use phase::{ErrorCode, Phase};
 pub use run::{Stop, serve};
