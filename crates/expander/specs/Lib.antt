@@ -37,4 +37,3 @@ pub mod PieceTrees
 pub mod SessionCalls
 -- which options words set
 pub mod NamedOptions
--- what crates above name too of those below
