@@ -3,7 +3,8 @@ use Rattle.std.specs.Prelude.{ℕ, List, [], ◌∷◌, ◌++◌, Bool, ◌&&◌
 use Rattle.tt_data.specs.Forest.{Forest}
 use Rattle.tt_data.specs.declared.delimiter.Delimiter.{Delimiter}
 use Rattle.tt_data.specs.declared.leaf.Ident.{Ident}
-use Rattle.expander_model.specs.Calls.{Path, from_crate, other, Marked, none, token, inside, call, marked}
+use Rattle.expander_model.specs.Calls.{Path, from_crate, other, Marked, none, token, inside, call}
+use Rattle.expander_model.specs.Calls.{marked}
 use Rattle.call_expansion.specs.declared.around.CallPlace.{CallPlace}
 
 -- the offset at which a call begins: that of its path, or else of its name

@@ -11,7 +11,8 @@ use Rattle.expander_model.specs.declared.scope_rules.ScopeRules.TheVariants as r
 use Rattle.expander_run.specs.declared.options.Options.{Options}
 use Rattle.crate_picks.specs.Editions.{edition_name}
 use Rattle.command_line.specs.declared.job.Action.{Action}
-use Rattle.command_line.specs.declared.job.Action.TheVariants.{Expand, Explain, Macros, Replay, Serve, Trace, View}
+use Rattle.command_line.specs.declared.job.Action.TheVariants.{Expand, Explain, Macros, Replay}
+use Rattle.command_line.specs.declared.job.Action.TheVariants.{Serve, Trace, View}
 
 -- the name of a subcommand
 abbrev pub action_name : Action → List ℕ

@@ -1,5 +1,6 @@
 -- The command line of the program, as `clap` reads it. (Of this project.)
-use Rattle.std.specs.Prelude.{◌≡◌, ◌≢◌, Bool, List, [], ◌∷◌, ◌++◌, codes, map, Option, Some, None, option_map, true, false, unwrap_or, ⊤}
+use Rattle.std.specs.Prelude.{◌≡◌, ◌≢◌, Bool, List, [], ◌∷◌, ◌++◌, codes, map, Option, Some, None}
+use Rattle.std.specs.Prelude.{option_map, true, false, unwrap_or, ⊤}
 use Rattle.clap.specs.Simple.{App, Shape, new_rule, new_shape, subcommand_of}
 use Rattle.any_grammar.specs.declared.chosen.AnyGrammar.{AnyGrammar}
 use Rattle.clap.specs.Walk.{Row, Rule, Text, all_of, first_of, one_of}

@@ -1,5 +1,6 @@
 //! The words that the program is called with, read as a request.
-ghost use Rattle.std.specs.Prelude.{◌≡◌, IfOk, IfSome, List, [], codes, map, option_map, string_bytes, unwrap_or, ℕ};
+ghost use Rattle.std.specs.Prelude.{◌≡◌, IfOk, IfSome, List, [], codes, map, option_map};
+ghost use Rattle.std.specs.Prelude.{string_bytes, unwrap_or, ℕ};
 ghost use Rattle.clap.specs.Words.{all_of, found_of, rows_of, subcommand_rows_of};
 ghost use Rattle.command_line.specs.Commands.{AsksBy, AsksFor, ChosenBy, IsAsked, IsFile};
 ghost use Rattle.command_line.specs.Commands.{NamesDiagnostics};

@@ -1,6 +1,7 @@
 -- Outer attributes. (The Rust Reference, "Attributes"; "Conditional compilation": `cfg_attr`;
 -- "Modules": the `path` attribute.)
-use Rattle.std.specs.Prelude.{ℕ, zero, suc, Bool, false, ◌&&◌, List, [], ◌∷◌, codes, Option, Some, None, is_some, option_map, unwrap_or, if◌then◌else◌}
+use Rattle.std.specs.Prelude.{ℕ, zero, suc, Bool, false, ◌&&◌, List, [], ◌∷◌, codes, Option, Some}
+use Rattle.std.specs.Prelude.{None, is_some, option_map, unwrap_or, if◌then◌else◌}
 use Rattle.std.specs.Str.Lossy.{utf8_lossy}
 use Rattle.bridge.specs.Text.{is_char, same_kind}
 use Rattle.cfg_options.specs.Conditions.{Options, cut_at_commas, or_else, predicate_value}

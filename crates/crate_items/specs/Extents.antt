@@ -1,6 +1,7 @@
 -- Where calls and modules are that are items of a text. (The Rust Reference, "Macros": invocation,
 -- "Modules": module source filenames.)
-use Rattle.std.specs.Prelude.{◌≡◌, ◌⊎◌, ◌≤◌, ◌^◌, ℕ, zero, suc, List, [], ◌++◌, flat_map, length, Ok, Option, Some, None, option_to_list, if◌then◌else◌}
+use Rattle.std.specs.Prelude.{◌≡◌, ◌⊎◌, ◌≤◌, ◌^◌, ℕ, zero, suc, List, [], ◌++◌, flat_map, length}
+use Rattle.std.specs.Prelude.{Ok, Option, Some, None, option_to_list, if◌then◌else◌}
 use Rattle.bridge.specs.ReadText.{HasTooMany}
 use Rattle.bridge.specs.TokenSteps.{text_reading, text_steps}
 use Rattle.cfg_options.specs.Conditions.{Options, is_kept}

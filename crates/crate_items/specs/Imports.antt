@@ -1,5 +1,7 @@
 -- The names that a `use` brings. (The Rust Reference, "Use declarations".)
-use Rattle.std.specs.Prelude.{ℕ, zero, suc, Bool, ◌&&◌, ◌||◌, not, List, [], ◌∷◌, ◌++◌, codes, flat_map, length, Option, Some, None, is_some, unwrap_or, if◌then◌else◌, ◌==◌, ◌-◌, get_or}
+use Rattle.std.specs.Prelude.{ℕ, zero, suc, Bool, ◌&&◌, ◌||◌, not, List, [], ◌∷◌, ◌++◌, codes}
+use Rattle.std.specs.Prelude.{flat_map, length, Option, Some, None, is_some, unwrap_or}
+use Rattle.std.specs.Prelude.{if◌then◌else◌, ◌==◌, ◌-◌, get_or}
 use Rattle.bridge.specs.Text.{is_char}
 use Rattle.cfg_options.specs.Conditions.{cut_at_commas, or_else}
 use Rattle.crate_items.specs.Heads.{behind_visibility, braced}

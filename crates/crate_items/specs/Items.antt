@@ -1,6 +1,8 @@
 -- What a text declares, item by item. (The Rust Reference, "Modules", "Macros By Example", "Extern
 -- crate declarations".)
-use Rattle.std.specs.Prelude.{ℕ, zero, suc, Bool, List, [], ◌∷◌, ◌++◌, codes, flat_map, length, map, Option, Some, None, is_some, option_map, string_bytes, Vec, if◌then◌else◌}
+use Rattle.std.specs.Prelude.{ℕ, zero, suc, Bool, List, [], ◌∷◌, ◌++◌, codes, flat_map, length}
+use Rattle.std.specs.Prelude.{map, Option, Some, None, is_some, option_map, string_bytes, Vec}
+use Rattle.std.specs.Prelude.{if◌then◌else◌}
 use Rattle.std.specs.Global.{Global}
 use Rattle.cfg_options.specs.Conditions.{Options, is_kept}
 use Rattle.cfg_options.specs.Strings.{string_text}
@@ -172,7 +174,8 @@ inner_items options piece =
 -- the items of a piece that is not left out, where `items` gives those of a module's trees
 abbrev pub kept_items : Options → (Forest → List Item) → Forest → List Item
 kept_items options items piece =
-    own_items piece ++ (inner_items options piece ++ with_head options items piece (module_head piece))
+    own_items piece ++ (inner_items options piece
+    ++ with_head options items piece (module_head piece))
 
 module _ (options : Options) where
   -- the items of a piece: none if its attributes leave it out

@@ -1,5 +1,6 @@
 -- A text in which calls are opened: of each what is kept stays, and blanks stand for the rest.
-use Rattle.std.specs.Prelude.{◌≡◌, ℕ, Bool, not, ◌&&◌, ◌==◌, nat_le, nat_lt, List, length, option_map, if◌then◌else◌}
+use Rattle.std.specs.Prelude.{◌≡◌, ℕ, Bool, not, ◌&&◌, ◌==◌, nat_le, nat_lt, List, length}
+use Rattle.std.specs.Prelude.{option_map, if◌then◌else◌}
 use Rattle.std.specs.List.{list_any, slice_get}
 use Rattle.tt_data.specs.declared.span.TextRange.{TextRange}
 

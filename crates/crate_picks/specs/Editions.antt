@@ -1,7 +1,8 @@
 -- Names of editions.
 use Rattle.std.specs.Prelude.{ℕ, List, codes}
 use Rattle.tt_data.specs.declared.edition.Edition.{Edition}
-use Rattle.tt_data.specs.declared.edition.Edition.TheVariants.{Edition2015, Edition2018, Edition2021, Edition2024}
+use Rattle.tt_data.specs.declared.edition.Edition.TheVariants.{Edition2015, Edition2018}
+use Rattle.tt_data.specs.declared.edition.Edition.TheVariants.{Edition2021, Edition2024}
 
 -- the name of an edition: its year
 abbrev pub edition_name : Edition → List ℕ

@@ -1,5 +1,6 @@
 -- The definitions at places of a crate. (Of this project.)
-use Rattle.std.specs.Prelude.{ℕ, List, [], ◌∷◌, Option, Some, None, flat_map, map, option_and_then, option_map, unwrap_or}
+use Rattle.std.specs.Prelude.{ℕ, List, [], ◌∷◌, Option, Some, None, flat_map, map, option_and_then}
+use Rattle.std.specs.Prelude.{option_map, unwrap_or}
 use Rattle.std.specs.List.{slice_get}
 use Rattle.crate_picks.specs.First.{first_of}
 use Rattle.crate_walk.specs.Files.{Files, event_of}

@@ -1,5 +1,6 @@
 -- What a prelude gets of a whole source. (Of this project.)
-use Rattle.std.specs.Prelude.{Bool, not, ◌&&◌, ◌==◌, List, [], ◌∷◌, ◌++◌, Option, Some, None, codes, filter, flat_map, length}
+use Rattle.std.specs.Prelude.{Bool, not, ◌&&◌, ◌==◌, List, [], ◌∷◌, ◌++◌, Option, Some, None}
+use Rattle.std.specs.Prelude.{codes, filter, flat_map, length}
 use Rattle.tt_data.specs.Forest.{Forest}
 use Rattle.expander_sources.specs.Homes.{Home}
 use Rattle.expander_sources.specs.Picks.{picked, rooted_picks}

@@ -1,5 +1,6 @@
 -- The laws of a grammar, for a grammar with items.
-use Rattle.std.proofs.Common.{◌≡◌, ◌≢◌, ◌≤◌, ◌↔◌, Bool, ℕ, IsTrue, true, false, refl, ap, ◌∙◌, sym, arith, length}
+use Rattle.std.proofs.Common.{◌≡◌, ◌≢◌, ◌≤◌, ◌↔◌, Bool, ℕ, IsTrue, true, false, refl, ap, ◌∙◌, sym}
+use Rattle.std.proofs.Common.{arith, length}
 use Rattle.std.proofs.lemmas.List.{length-map}
 use Rattle.tt_data.proofs.ForestLemmas.{walk-map_spans}
 use Rattle.tt_data.specs.Forest.{Forest, empty, leaf, group, shape}

@@ -1,5 +1,6 @@
 -- The tokens in which a piece of a text is written.
-use Rattle.std.specs.Prelude.{◌≡◌, ℕ, ◌+◌, ◌-◌, All, Bool, true, false, ◌&&◌, nat_le, List, [], ◌∷◌, ◌++◌, None, chars, filter, length, map}
+use Rattle.std.specs.Prelude.{◌≡◌, ℕ, ◌+◌, ◌-◌, All, Bool, true, false, ◌&&◌, nat_le, List, []}
+use Rattle.std.specs.Prelude.{◌∷◌, ◌++◌, None, chars, filter, length, map}
 use Rattle.bridge.specs.Reading.{PlacedToken, placed_from}
 use Rattle.rustc_lexer.specs.Lexing.{tokens_of}
 use Rattle.rustc_lexer.specs.declared.token.TokenKind.{TokenKind}

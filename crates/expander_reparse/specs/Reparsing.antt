@@ -1,5 +1,6 @@
 -- How a text is read piece by piece.
-use Rattle.std.specs.Prelude.{◌≡◌, ℕ, ◌+◌, ◌≤◌, ◌++◌, chars, drop, take, [], ◌∷◌, All, IfSome, List, None, Option, Some, length, map, slice_get}
+use Rattle.std.specs.Prelude.{◌≡◌, ℕ, ◌+◌, ◌≤◌, ◌++◌, chars, drop, take, [], ◌∷◌, All, IfSome}
+use Rattle.std.specs.Prelude.{List, None, Option, Some, length, map, slice_get}
 use Rattle.std.specs.Global.{Global}
 use Rattle.std.specs.Rc.{rc_value}
 use Rattle.std.specs.declared.rc.Rc.{Rc}
@@ -15,7 +16,9 @@ use Rattle.bridge.specs.Parts.{begins_with_mark, part_steps}
 use Rattle.expander_model.specs.HashedTrees.{own_top}
 use Rattle.expander_reparse.specs.RelativePieces.{AreOwn, own_shown, tree_at}
 use Rattle.expander_model.specs.Pieces.{first_start, pieces, separated}
-use Rattle.expander_reparse.specs.Segments.{AreListed, AreParts, AreReadAs, IsHeldAt, IsCachedPiece, OccursFirst, all_in, bytes_of, chars_ahead, part_shown, pieces_of, sources_of}
+use Rattle.expander_reparse.specs.Segments.{AreListed, AreParts, AreReadAs, IsHeldAt}
+use Rattle.expander_reparse.specs.Segments.{IsCachedPiece, OccursFirst, all_in, bytes_of}
+use Rattle.expander_reparse.specs.Segments.{chars_ahead, part_shown, pieces_of, sources_of}
 use Rattle.expander_model.specs.Splitting.{HasShape, IsOpen}
 use Rattle.expander_reparse.specs.declared.piece.Piece.{Piece}
 use Rattle.expander_reparse.specs.declared.segment_builder.OpenSegment.{OpenSegment}

@@ -1,15 +1,25 @@
 -- The lines in which a run reports its faults. (Of this project.)
-use Rattle.std.specs.Prelude.{ℕ, ◌+◌, Bool, not, List, [], ◌∷◌, ◌++◌, length, take, reverse, codes, decimal, nat_eq, count_by}
+use Rattle.std.specs.Prelude.{ℕ, ◌+◌, Bool, not, List, [], ◌∷◌, ◌++◌, length, take, reverse, codes}
+use Rattle.std.specs.Prelude.{decimal, nat_eq, count_by}
 use Rattle.std.specs.List.{take_while}
 use Rattle.bridge.specs.declared.reading.outcome.ReadFaultKind.{ReadFaultKind}
-use Rattle.bridge.specs.declared.reading.outcome.ReadFaultKind.TheVariants.{BadToken, CloserDoesNotFit, GroupLeftOpen}
+use Rattle.bridge.specs.declared.reading.outcome.ReadFaultKind.TheVariants.{BadToken}
+use Rattle.bridge.specs.declared.reading.outcome.ReadFaultKind.TheVariants.{CloserDoesNotFit}
+use Rattle.bridge.specs.declared.reading.outcome.ReadFaultKind.TheVariants.{GroupLeftOpen}
 use Rattle.expander_model.specs.declared.fault.Fault.{Fault}
 use Rattle.expander_model.specs.declared.fault.FaultKind.{FaultKind}
-use Rattle.expander_model.specs.declared.fault.FaultKind.TheVariants.{CannotExpand, BrokenDefinition, RecursionLimit, NestedDefinition, Unspellable, TooLarge}
+use Rattle.expander_model.specs.declared.fault.FaultKind.TheVariants.{CannotExpand}
+use Rattle.expander_model.specs.declared.fault.FaultKind.TheVariants.{BrokenDefinition}
+use Rattle.expander_model.specs.declared.fault.FaultKind.TheVariants.{RecursionLimit}
+use Rattle.expander_model.specs.declared.fault.FaultKind.TheVariants.{NestedDefinition}
+use Rattle.expander_model.specs.declared.fault.FaultKind.TheVariants.{Unspellable, TooLarge}
 use Rattle.expander_run.specs.declared.stop.Stop.{Stop}
-use Rattle.expander_run.specs.declared.stop.Stop.TheVariants.{NotUtf8, TooLong, ReadFailed, WriteFailed, Refused}
+use Rattle.expander_run.specs.declared.stop.Stop.TheVariants.{NotUtf8, TooLong, ReadFailed}
+use Rattle.expander_run.specs.declared.stop.Stop.TheVariants.{WriteFailed, Refused}
 use Rattle.expander_session.specs.expander_scope.declared.refusal.Refusal.{Refusal}
-use Rattle.expander_session.specs.expander_scope.declared.refusal.Refusal.TheVariants.{Memory, Tokens, Numbers}
+use Rattle.expander_session.specs.expander_scope.declared.refusal.Refusal.TheVariants.{Memory}
+use Rattle.expander_session.specs.expander_scope.declared.refusal.Refusal.TheVariants.{Tokens}
+use Rattle.expander_session.specs.expander_scope.declared.refusal.Refusal.TheVariants.{Numbers}
 use Rattle.expander_session.specs.declared.session.Reply.{Reply}
 use Rattle.expander_session.specs.declared.session.Reply.TheVariants.{Read, Unread}
 

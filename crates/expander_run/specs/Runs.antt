@@ -1,5 +1,6 @@
 -- What a run reads and writes. (Of this project.)
-use Rattle.std.specs.Prelude.{◌≡◌, ℕ, ◌≤◌, ◌<◌, ◌^◌, Bool, true, false, List, [], ◌∷◌, length, take, Option, Some, None, IfSome, IsUtf8, ⊤}
+use Rattle.std.specs.Prelude.{◌≡◌, ℕ, ◌≤◌, ◌<◌, ◌^◌, Bool, true, false, List, [], ◌∷◌, length}
+use Rattle.std.specs.Prelude.{take, Option, Some, None, IfSome, IsUtf8, ⊤}
 use Rattle.std.specs.Io.KnownBytes.{Appends}
 use Rattle.tt_data.specs.Forest.{Forest}
 use Rattle.tt_data.specs.declared.edition.Edition.TheVariants.{Edition2024}
@@ -14,14 +15,17 @@ use Rattle.expander_session.specs.State.{definitions_of}
 use Rattle.expander_session.specs.TooMany.{NeedsTooManyIn}
 use Rattle.expander_run.specs.Watch.{Watch}
 use Rattle.expander_model.specs.declared.fault.Fault.{Fault}
-use Rattle.expander_session.specs.expander_scope.declared.refusal.Refusal.TheVariants.{Memory, Tokens, Numbers}
+use Rattle.expander_session.specs.expander_scope.declared.refusal.Refusal.TheVariants.{Memory}
+use Rattle.expander_session.specs.expander_scope.declared.refusal.Refusal.TheVariants.{Tokens}
+use Rattle.expander_session.specs.expander_scope.declared.refusal.Refusal.TheVariants.{Numbers}
 use Rattle.expander_session.specs.declared.session.Reply.{Reply}
 use Rattle.expander_session.specs.declared.session.Reply.TheVariants.{Read, Unread}
 use Rattle.expander_session.specs.mbe.Grammar.{Grammar}
 use Rattle.expander_run.specs.declared.options.Options.{Options}
 use Rattle.expander_run.specs.declared.program.Status.{Status}
 use Rattle.expander_run.specs.declared.stop.Stop.{Stop}
-use Rattle.expander_run.specs.declared.stop.Stop.TheVariants.{NotUtf8, TooLong, ReadFailed, WriteFailed, Refused}
+use Rattle.expander_run.specs.declared.stop.Stop.TheVariants.{NotUtf8, TooLong, ReadFailed}
+use Rattle.expander_run.specs.declared.stop.Stop.TheVariants.{WriteFailed, Refused}
 
 -- all that a reader had left, where its bytes are known
 abbrev pub IsAllOf : Option (List ℕ) → List ℕ → Type 0

@@ -1,12 +1,14 @@
 -- What the steps of a run promise each other.
-use Rattle.std.specs.Prelude.{◌≡◌, ℕ, ◌≤◌, ◌^◌, Bool, true, false, List, length, take, Option, None, IfSome}
+use Rattle.std.specs.Prelude.{◌≡◌, ℕ, ◌≤◌, ◌^◌, Bool, true, false, List, length, take, Option}
+use Rattle.std.specs.Prelude.{None, IfSome}
 use Rattle.std.specs.Io.KnownBytes.{Appends}
 use Rattle.expander_model.specs.Meaning.{Layers}
 use Rattle.expander_run.specs.Lines.{report}
 use Rattle.expander_session.specs.Replies.{IsReplyIn}
 use Rattle.expander_session.specs.State.{definitions_of}
 use Rattle.tt_data.specs.Forest.{Forest}
-use Rattle.expander_run.specs.Runs.{IsFlushed, IsInput, StopsAfter, is_of_reader, is_of_writer, printed_of}
+use Rattle.expander_run.specs.Runs.{IsFlushed, IsInput, StopsAfter, is_of_reader, is_of_writer}
+use Rattle.expander_run.specs.Runs.{printed_of}
 use Rattle.expander_run.specs.Watch.{Watch}
 use Rattle.expander_session.specs.expander_scope.declared.refusal.Refusal.TheVariants.{Memory}
 use Rattle.expander_session.specs.Expanded.{Expanded}

@@ -1,5 +1,6 @@
 -- A reader or writer that remembers whether it failed.
-use Rattle.std.specs.Prelude.{ℕ, Bool, true, false, List, length, Result, Ok, Err, nat_eq, nat_lt, ◌&&◌}
+use Rattle.std.specs.Prelude.{ℕ, Bool, true, false, List, length, Result, Ok, Err, nat_eq, nat_lt}
+use Rattle.std.specs.Prelude.{◌&&◌}
 
 pub record Watch (T : Type 0) : Type 0 where
   -- the reader or writer inside

@@ -1,17 +1,21 @@
 -- The search of lists for calls, in a tree with piece-relative spans, and what it adds to an
 -- output.
-use Rattle.std.specs.Prelude.{◌≡◌, ℕ, zero, suc, ◌-◌, Bool, false, ◌&&◌, not, List, [], ◌∷◌, ◌++◌, map, Option, Some, None, option_map, Result, Ok, Err, if◌then◌else◌}
+use Rattle.std.specs.Prelude.{◌≡◌, ℕ, zero, suc, ◌-◌, Bool, false, ◌&&◌, not, List, [], ◌∷◌, ◌++◌}
+use Rattle.std.specs.Prelude.{map, Option, Some, None, option_map, Result, Ok, Err, if◌then◌else◌}
 use Rattle.tt_data.specs.Forest.{Forest, size}
 use Rattle.tt_data.specs.Walk.{walk}
 use Rattle.tt.specs.Tops.{Top}
 use Rattle.expander_scope.specs.declared.outcome.Expanding.{Expanding}
 use Rattle.expander_model.specs.declared.fault.FaultKind.{FaultKind}
-use Rattle.expander_model.specs.declared.fault.FaultKind.TheVariants.{CannotExpand, BrokenDefinition, RecursionLimit}
+use Rattle.expander_model.specs.declared.fault.FaultKind.TheVariants.{CannotExpand}
+use Rattle.expander_model.specs.declared.fault.FaultKind.TheVariants.{BrokenDefinition}
+use Rattle.expander_model.specs.declared.fault.FaultKind.TheVariants.{RecursionLimit}
 use Rattle.expander_model.specs.Changes.{find_with}
 use Rattle.expander_model.specs.Expansion.{World, Outcome, PlacedStep, just}
 use Rattle.expander_model.specs.Definitions.{Definition}
 use Rattle.expander_model.specs.Scoping.{Around, Attempt, Expander, Scoped, Search, defined, only}
-use Rattle.expander_model.specs.Limits.{Noted, Notes, calls_of, definition, limited, looked_in, noted, noted_attempt, noted_list, noted_world, sized}
+use Rattle.expander_model.specs.Limits.{Noted, Notes, calls_of, definition, limited, looked_in}
+use Rattle.expander_model.specs.Limits.{noted, noted_attempt, noted_list, noted_world, sized}
 use Rattle.expander_model.specs.declared.limits.Limits.{Limits}
 use Rattle.expander_model.specs.declared.scope_rules.Standing.{Standing}
 use Rattle.expander_scope.specs.LocalTables.{locals_of}

@@ -1,5 +1,6 @@
 -- What is left to search of a list, and of the lists around it, wherever a search of it stands.
-use Rattle.std.specs.Prelude.{◌≡◌, ◌<◌, ◌||◌, ℕ, Bool, true, false, List, [], ◌∷◌, ◌++◌, Option, Some, None, codes, is_some, if◌then◌else◌}
+use Rattle.std.specs.Prelude.{◌≡◌, ◌<◌, ◌||◌, ℕ, Bool, true, false, List, [], ◌∷◌, ◌++◌, Option}
+use Rattle.std.specs.Prelude.{Some, None, codes, is_some, if◌then◌else◌}
 use Rattle.bridge.specs.Text.{is_char, is_visible}
 use Rattle.small_grammar.specs.Text.{has_text}
 use Rattle.tt_data.specs.Forest.{Forest, leaf, size}
@@ -38,7 +39,8 @@ IsAhead f None = (p : Forest) (ps : List Forest) → cut f ≡ p ∷ ps → defi
 -- the first piece is left out, and what follows it; or it is not
 abbrev pub IsOutAhead : Option CfgOptions → Standing → Forest → Option Forest → Type 0
 IsOutAhead cfg standing f (Some rest) =
-    (p : Forest) × ((cut f ≡ p ∷ cut rest) × ((is_out cfg standing p ≡ true) × (size rest < size f)))
+    (p : Forest) × ((cut f ≡ p ∷ cut rest)
+    × ((is_out cfg standing p ≡ true) × (size rest < size f)))
 IsOutAhead cfg standing f None =
     (p : Forest) (ps : List Forest) → cut f ≡ p ∷ ps → is_out cfg standing p ≡ false
 

@@ -1,5 +1,6 @@
 -- Ids of definitions: equal trees have one id, kept from one text that was read to the next.
-use Rattle.std.specs.Prelude.{◌≢◌, ℕ, ◌+◌, ◌≤◌, All, List, [], ◌∷◌, Option, Some, None, if◌then◌else◌, unwrap_or}
+use Rattle.std.specs.Prelude.{◌≢◌, ℕ, ◌+◌, ◌≤◌, All, List, [], ◌∷◌, Option, Some, None}
+use Rattle.std.specs.Prelude.{if◌then◌else◌, unwrap_or}
 use Rattle.tt_data.specs.Forest.{Forest}
 use Rattle.expander_model.specs.EqualTrees.{same_forest}
 

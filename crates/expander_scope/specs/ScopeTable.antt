@@ -5,7 +5,8 @@ use Rattle.expander_model.specs.mbe.Grammar.{Grammar}
 use Rattle.tt_data.specs.Forest.{Forest}
 use Rattle.expander_scope.specs.Editions.{IsRead}
 use Rattle.expander_model.specs.Expansion.{Outcome}
-use Rattle.expander_model.specs.Held.{Met, Numbered, numbered_scope, numbered_world, place_of, unnumbered}
+use Rattle.expander_model.specs.Held.{Met, Numbered, numbered_scope, numbered_world, place_of}
+use Rattle.expander_model.specs.Held.{unnumbered}
 use Rattle.expander_model.specs.Limits.{expanded}
 use Rattle.expander_model.specs.declared.dialect.Dialect.{Dialect}
 use Rattle.expander_scope.specs.NameTables.{index_of}

@@ -1,11 +1,13 @@
 -- What is left of the limits of an outermost call while it is expanded, and what a search gives
 -- that stops where one is passed.
-use Rattle.std.specs.Prelude.{◌≡◌, ℕ, ◌-◌, Bool, true, ◌||◌, List, [], ◌∷◌, ◌++◌, map, nat_lt, Option, Some, None, option_map, if◌then◌else◌}
+use Rattle.std.specs.Prelude.{◌≡◌, ℕ, ◌-◌, Bool, true, ◌||◌, List, [], ◌∷◌, ◌++◌, map, nat_lt}
+use Rattle.std.specs.Prelude.{Option, Some, None, option_map, if◌then◌else◌}
 use Rattle.tt_data.specs.declared.span.Span.{Span}
 use Rattle.expander_model.specs.Definitions.{Definition}
 use Rattle.expander_model.specs.Expansion.{Outcome, PlacedStep}
 use Rattle.expander_model.specs.Held.{Numbered}
-use Rattle.expander_model.specs.Limits.{Noted, Notes, Passed, burst, definition, sized, tried, until_passed}
+use Rattle.expander_model.specs.Limits.{Noted, Notes, Passed, burst, definition, sized, tried}
+use Rattle.expander_model.specs.Limits.{until_passed}
 use Rattle.expander_model.specs.Scoping.{Scoped}
 use Rattle.expander_model.specs.declared.fault.FaultKind.{FaultKind}
 use Rattle.expander_model.specs.declared.limits.Limits.{Limits}

@@ -1,5 +1,6 @@
 -- The entries of a stack of names: which one a name resolves to, and which one each of them hides.
-use Rattle.std.specs.Prelude.{◌≡◌, ℕ, List, [], ◌∷◌, ◌++◌, length, Option, None, Some, if◌then◌else◌}
+use Rattle.std.specs.Prelude.{◌≡◌, ℕ, List, [], ◌∷◌, ◌++◌, length, Option, None, Some}
+use Rattle.std.specs.Prelude.{if◌then◌else◌}
 use Rattle.small_grammar.specs.Text.{same_text}
 use Rattle.expander_scope.specs.declared.name_stack.Entry.{Entry}
 

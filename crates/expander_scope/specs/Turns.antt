@@ -1,5 +1,7 @@
 -- What a search of lists does turn by turn: where it stands, and what it adds to the output.
-use Rattle.std.specs.Prelude.{◌≡◌, ◌<◌, ◌+◌, ◌*◌, ℕ, Bool, true, false, List, [], ◌∷◌, ◌++◌, length, map, Option, Some, None, option_map, unwrap_or, is_some, reverse, if◌then◌else◌}
+use Rattle.std.specs.Prelude.{◌≡◌, ◌<◌, ◌+◌, ◌*◌, ℕ, Bool, true, false, List, [], ◌∷◌, ◌++◌}
+use Rattle.std.specs.Prelude.{length, map, Option, Some, None, option_map, unwrap_or, is_some}
+use Rattle.std.specs.Prelude.{reverse, if◌then◌else◌}
 use Rattle.bridge.specs.Text.{is_char}
 use Rattle.small_grammar.specs.Text.{◌>>=◌}
 use Rattle.tt.specs.FirstTrees.{first_ident, first_punct, first_group}
@@ -30,7 +32,8 @@ use Rattle.expander_model.specs.declared.fault.FaultKind.TheVariants.{BrokenDefi
 use Rattle.expander_model.specs.declared.tree_walk.Around.{Around}
 use Rattle.expander_model.specs.Limits.{Noted}
 use Rattle.expander_scope.specs.Expanding.{Adds, Levels, levels_at, searched, world_under}
-use Rattle.expander_scope.specs.ListsLeft.{IsAhead, IsOutAhead, Left, Open, Place, all_left, groups_left, in_list, then_left}
+use Rattle.expander_scope.specs.ListsLeft.{IsAhead, IsOutAhead, Left, Open, Place, all_left}
+use Rattle.expander_scope.specs.ListsLeft.{groups_left, in_list, then_left}
 use Rattle.expander_scope.specs.LocalTables.{AreReadIn, locals_of}
 use Rattle.expander_scope.specs.ScopeTable.{scope_in}
 use Rattle.expander_scope.specs.Spending.{Spends}
@@ -178,7 +181,8 @@ module _ (dialect : Dialect) (world : World Numbered) (scope : List ℕ → Opti
 
   -- `Has` tells which events a sink has taken. The search went on from what was left to another
   -- place, with these definitions around all groups, and added what comes between
-  pub record Goes (outside : List Definition) (edition : Edition) {S : Type 0} (Has : S → List PlacedStep → Type 0)
+  pub record Goes (outside : List Definition) (edition : Edition) {S : Type 0}
+      (Has : S → List PlacedStep → Type 0)
       (from : Left) (old new : Search S) (before after : ListWalk) : Type 0 where
     pub next : Place
     pub at : IsAt after new.locals next

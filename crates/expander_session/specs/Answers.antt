@@ -1,17 +1,20 @@
 -- The answers to a list of commands: each by the text at its turn.
-use Rattle.std.specs.Prelude.{◌≡◌, ℕ, ◌+◌, ◌-◌, ◌≤◌, ◌<◌, ◌^◌, List, [], ◌∷◌, length, Option, Some, None, string_bytes, IsCharBoundary, ⊤}
+use Rattle.std.specs.Prelude.{◌≡◌, ℕ, ◌+◌, ◌-◌, ◌≤◌, ◌<◌, ◌^◌, List, [], ◌∷◌, length, Option, Some}
+use Rattle.std.specs.Prelude.{None, string_bytes, IsCharBoundary, ⊤}
 use Rattle.rustc_lexer.specs.Edit.{edited}
 use Rattle.tt_data.specs.Forest.{Forest}
 use Rattle.expander_scope.specs.declared.refusal.Refusal.TheVariants.{Memory, Tokens, Numbers}
 use Rattle.expander_session.specs.declared.session.Reply.{Reply}
 use Rattle.expander_session.specs.declared.session.Reply.TheVariants.{Read, Unread}
 use Rattle.expander_session.specs.declared.commands.Answer.{Answer}
-use Rattle.expander_session.specs.declared.commands.Answer.TheVariants.{Edited, BadEdit, Reply as Replied, Refused}
+use Rattle.expander_session.specs.declared.commands.Answer.TheVariants.{Edited, BadEdit}
+use Rattle.expander_session.specs.declared.commands.Answer.TheVariants.{Reply as Replied, Refused}
 use Rattle.expander_session.specs.declared.commands.Command.{Command}
 use Rattle.expander_session.specs.declared.commands.Command.TheVariants.{Edit, Expand}
 use Rattle.expander_session.specs.Count.{Looked}
 use Rattle.expander_model.specs.Meaning.{Layers, meaning}
-use Rattle.expander_session.specs.Replies.{IsReplyTo, NeedsNumbers, definitions_in, given_after, looked_in}
+use Rattle.expander_session.specs.Replies.{IsReplyTo, NeedsNumbers, definitions_in, given_after}
+use Rattle.expander_session.specs.Replies.{looked_in}
 use Rattle.expander_session.specs.TooMany.{NeedsTooMany}
 
 -- both offsets are character boundaries, in order, and the edited text fits

@@ -1,11 +1,13 @@
 -- What a session has cached of the last text that was read.
-use Rattle.std.specs.Prelude.{◌≡◌, ℕ, false, All, List, [], Option, Some, None, if◌then◌else◌, map, option_map}
+use Rattle.std.specs.Prelude.{◌≡◌, ℕ, false, All, List, [], Option, Some, None, if◌then◌else◌, map}
+use Rattle.std.specs.Prelude.{option_map}
 use Rattle.std.specs.Rc.{rc_value}
 use Rattle.bridge.specs.ReadText.{text_top}
 use Rattle.tt_data.specs.Forest.{Forest}
 use Rattle.tt_data.specs.declared.edition.Edition.{Edition}
 use Rattle.expander_session.specs.Agreement.{scope_of}
-use Rattle.expander_scope.specs.Interning.{AllRead, AreInTable, IsTable, definition_tops, numbers_in}
+use Rattle.expander_scope.specs.Interning.{AllRead, AreInTable, IsTable, definition_tops}
+use Rattle.expander_scope.specs.Interning.{numbers_in}
 use Rattle.expander_session.specs.Count.{Looked}
 use Rattle.expander_model.specs.Definitions.{Definition}
 use Rattle.expander_model.specs.Expansion.{World}

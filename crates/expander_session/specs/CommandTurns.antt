@@ -2,7 +2,8 @@
 use Rattle.std.specs.Prelude.{◌≡◌, ℕ, List, string_bytes}
 use Rattle.rustc_lexer.specs.Edit.{edited}
 use Rattle.expander_session.specs.declared.commands.Answer.{Answer}
-use Rattle.expander_session.specs.declared.commands.Answer.TheVariants.{Edited, BadEdit, Reply as Replied, Refused}
+use Rattle.expander_session.specs.declared.commands.Answer.TheVariants.{Edited, BadEdit}
+use Rattle.expander_session.specs.declared.commands.Answer.TheVariants.{Reply as Replied, Refused}
 use Rattle.expander_session.specs.declared.commands.Command.{Command}
 use Rattle.expander_session.specs.declared.commands.Command.TheVariants.{Edit, Expand}
 use Rattle.expander_scope.specs.declared.refusal.Refusal.TheVariants.{Memory}

@@ -1,5 +1,6 @@
 -- How many plain pieces of a text have no match in an earlier one. (Of this project.)
-use Rattle.std.specs.Prelude.{ℕ, Bool, true, false, ◌&&◌, not, List, [], Option, Some, None, option_map, map, filter_map, filter, length}
+use Rattle.std.specs.Prelude.{ℕ, Bool, true, false, ◌&&◌, not, List, [], Option, Some, None}
+use Rattle.std.specs.Prelude.{option_map, map, filter_map, filter, length}
 use Rattle.std.specs.List.{list_any, list_all}
 use Rattle.tt_data.specs.Forest.{Forest}
 use Rattle.expander_model.specs.Definitions.{Definition}

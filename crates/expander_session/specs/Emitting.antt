@@ -1,5 +1,6 @@
 -- What the code keeps of an output: its events as printed, and the ranges of their faults.
-use Rattle.std.specs.Prelude.{◌≡◌, ℕ, ◌+◌, List, [], ◌∷◌, ◌++◌, filter, if◌then◌else◌, length, map, nat_eq}
+use Rattle.std.specs.Prelude.{◌≡◌, ℕ, ◌+◌, List, [], ◌∷◌, ◌++◌, filter, if◌then◌else◌, length, map}
+use Rattle.std.specs.Prelude.{nat_eq}
 use Rattle.bridge.specs.Printers.{HasPut}
 use Rattle.bridge.specs.Printing.{left_out_from}
 use Rattle.tt_data.specs.declared.span.Span.{Span}
@@ -9,7 +10,8 @@ use Rattle.expander_session.specs.declared.emitter.Emitter.{Emitter}
 use Rattle.expander_session.specs.declared.emitter.Told.{Told}
 use Rattle.expander_model.specs.Expansion.{PlacedStep}
 use Rattle.expander_model.specs.Faults.{place, fault_at, is_definition_word, nested, unspellable}
-use Rattle.expander_model.specs.Printing.{PrintedToken, visible, printed, left_out, spelling_before, steps_of}
+use Rattle.expander_model.specs.Printing.{PrintedToken, visible, printed, left_out}
+use Rattle.expander_model.specs.Printing.{spelling_before, steps_of}
 
 -- the ranges for faults of these tokens, the first of which has this number
 abbrev pub told_from : ℕ → List PlacedStep → List Told

@@ -1,5 +1,6 @@
 -- What a pass over a text's pieces makes of them, over the old cache.
-use Rattle.std.specs.Prelude.{◌≡◌, ℕ, ◌+◌, ◌≤◌, ◌^◌, All, List, [], ◌∷◌, ◌++◌, None, Some, filter, filter_map, flat_map, length, map, true}
+use Rattle.std.specs.Prelude.{◌≡◌, ℕ, ◌+◌, ◌≤◌, ◌^◌, All, List, [], ◌∷◌, ◌++◌, None, Some, filter}
+use Rattle.std.specs.Prelude.{filter_map, flat_map, length, map, true}
 use Rattle.std.specs.Rc.{rc_value}
 use Rattle.mbe.specs.Grammar.{Grammar}
 use Rattle.tt.specs.Tops.{Top}
@@ -8,7 +9,8 @@ use Rattle.tt_data.specs.declared.edition.Edition.{Edition}
 use Rattle.expander_scope.specs.Interning.{AllRead, IsTable, definition_tops, numbers_in}
 use Rattle.expander_model.specs.Definitions.{Definition, definition_of}
 use Rattle.expander_model.specs.Expansion.{World}
-use Rattle.expander_model.specs.Held.{IsMet, Kept, Met, kept_of, mets_after, numbered_world, present, unnumbered, with_met}
+use Rattle.expander_model.specs.Held.{IsMet, Kept, Met, kept_of, mets_after, numbered_world}
+use Rattle.expander_model.specs.Held.{present, unnumbered, with_met}
 use Rattle.expander_model.specs.DefinitionTrees.{definition_trees}
 use Rattle.expander_session.specs.Layered.{layers}
 use Rattle.expander_session.specs.MemoRefs.{LeadTo, plain_tops}

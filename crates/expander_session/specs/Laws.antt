@@ -1,5 +1,6 @@
 -- Definitions that the laws use.
-use Rattle.std.specs.Prelude.{◌≡◌, ◌≢◌, ◌⊎◌, ℕ, zero, suc, Bool, true, false, not, All, Option, None, List, is_none}
+use Rattle.std.specs.Prelude.{◌≡◌, ◌≢◌, ◌⊎◌, ℕ, zero, suc, Bool, true, false, not, All, Option}
+use Rattle.std.specs.Prelude.{None, List, is_none}
 use Rattle.std.specs.List.{list_all}
 use Rattle.bridge.specs.Text.{is_punct}
 use Rattle.tt_data.specs.Forest.{Forest, empty, leaf, group, joined}
@@ -10,7 +11,9 @@ use Rattle.expander_model.specs.Definitions.{Definition, definition_of}
 use Rattle.expander_model.specs.Faults.{is_definition_word}
 use Rattle.expander_model.specs.Pieces.{ends_piece}
 use Rattle.expander_model.specs.declared.fault.FaultKind.{FaultKind}
-use Rattle.expander_model.specs.declared.fault.FaultKind.TheVariants.{CannotExpand, BrokenDefinition, RecursionLimit}
+use Rattle.expander_model.specs.declared.fault.FaultKind.TheVariants.{CannotExpand}
+use Rattle.expander_model.specs.declared.fault.FaultKind.TheVariants.{BrokenDefinition}
+use Rattle.expander_model.specs.declared.fault.FaultKind.TheVariants.{RecursionLimit}
 use Rattle.expander_session.specs.declared.session.Reply.{Reply}
 use Rattle.expander_session.specs.declared.session.Reply.TheVariants.{Read, Unread}
 

@@ -1,5 +1,6 @@
 -- An index of memos by their trees and by what their look-ups found.
-use Rattle.std.specs.Prelude.{◌≡◌, ℕ, suc, ◌+◌, ◌<◌, true, IfSome, List, [], ◌∷◌, Option, Some, None, if◌then◌else◌, length, nat_eq, slice_get, ◌&&◌}
+use Rattle.std.specs.Prelude.{◌≡◌, ℕ, suc, ◌+◌, ◌<◌, true, IfSome, List, [], ◌∷◌, Option, Some}
+use Rattle.std.specs.Prelude.{None, if◌then◌else◌, length, nat_eq, slice_get, ◌&&◌}
 use Rattle.std.specs.HashMap.{get, get_by}
 use Rattle.std.specs.Global.{Global}
 use Rattle.std.specs.Rc.{rc_value}

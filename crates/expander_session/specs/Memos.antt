@@ -1,5 +1,6 @@
 -- Memos: plain pieces as the cache has them.
-use Rattle.std.specs.Prelude.{◌≡◌, ℕ, ◌<◌, Bool, true, false, ◌&&◌, IfSome, List, Option, is_some, length, map, slice_get}
+use Rattle.std.specs.Prelude.{◌≡◌, ℕ, ◌<◌, Bool, true, false, ◌&&◌, IfSome, List, Option, is_some}
+use Rattle.std.specs.Prelude.{length, map, slice_get}
 use Rattle.std.specs.List.{list_any}
 use Rattle.std.specs.Global.{Global}
 use Rattle.std.specs.Rc.{rc_value}

@@ -1,5 +1,6 @@
 -- What a session replies: its text's meaning, and how many pieces the last text did not have.
-use Rattle.std.specs.Prelude.{◌≡◌, ℕ, ◌+◌, ◌≤◌, ◌^◌, List, [], ◌++◌, map, Option, Some, Result, Ok, Err, ⊤}
+use Rattle.std.specs.Prelude.{◌≡◌, ℕ, ◌+◌, ◌≤◌, ◌^◌, List, [], ◌++◌, map, Option, Some, Result, Ok}
+use Rattle.std.specs.Prelude.{Err, ⊤}
 use Rattle.bridge.specs.PrintedRanges.{printed_ranges, read_ranges}
 use Rattle.bridge.specs.declared.reading.outcome.ReadFault.{ReadFault}
 use Rattle.tt_data.specs.Forest.{Forest}

@@ -1,5 +1,6 @@
 -- What is cached of a text that was read, and what is reused of it.
-use Rattle.std.specs.Prelude.{◌≡◌, ℕ, Bool, true, false, ◌&&◌, All, List, Option, Some, None, map, nat_eq, option_map}
+use Rattle.std.specs.Prelude.{◌≡◌, ℕ, Bool, true, false, ◌&&◌, All, List, Option, Some, None, map}
+use Rattle.std.specs.Prelude.{nat_eq, option_map}
 use Rattle.std.specs.List.{list_all}
 use Rattle.tt_data.specs.Forest.{Forest}
 use Rattle.expander_session.specs.Agreement.{scope_of}

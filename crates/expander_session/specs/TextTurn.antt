@@ -1,14 +1,18 @@
 -- What a text gives over a cache, and what is cached afterwards.
-use Rattle.std.specs.Prelude.{◌≡◌, ℕ, Bool, false, not, All, Contains, IsUtf8, List, [], ◌∷◌, Option, Some, None, Ok, filter, find, map}
+use Rattle.std.specs.Prelude.{◌≡◌, ℕ, Bool, false, not, All, Contains, IsUtf8, List, [], ◌∷◌}
+use Rattle.std.specs.Prelude.{Option, Some, None, Ok, filter, find, map}
 use Rattle.std.specs.List.{list_any}
 use Rattle.bridge.specs.TokenSteps.{text_reading}
 use Rattle.tt_data.specs.Forest.{Forest}
 use Rattle.expander_model.specs.Definitions.{Definition, definition_of}
 use Rattle.expander_model.specs.Expansion.{Outcome, World}
-use Rattle.expander_model.specs.Held.{IsMet, Kept, Known, Met, Numbered, StandFrom, StandFromFirst, TellsApart, kept, met, met_of, numbered_scope, numbered_world, unnumbered, with_met}
+use Rattle.expander_model.specs.Held.{IsMet, Kept, Known, Met, Numbered, StandFrom, StandFromFirst}
+use Rattle.expander_model.specs.Held.{TellsApart, kept, met, met_of, numbered_scope}
+use Rattle.expander_model.specs.Held.{numbered_world, unnumbered, with_met}
 use Rattle.expander_model.specs.DefinitionTrees.{definition_trees}
 use Rattle.expander_model.specs.EqualTrees.{same_forest}
-use Rattle.expander_scope.specs.Numbers.{AreEntries, Entry, Numbering, number_of, tree_of, with_trees}
+use Rattle.expander_scope.specs.Numbers.{AreEntries, Entry, Numbering, number_of, tree_of}
+use Rattle.expander_scope.specs.Numbers.{with_trees}
 use Rattle.expander_model.specs.Pieces.{first_start, pieces, relative}
 use Rattle.expander_model.specs.Limits.{expanded}
 use Rattle.expander_model.specs.declared.dialect.Dialect.{Dialect}
@@ -59,7 +63,8 @@ pub record IsPlain (world : World Definition) (depth : ℕ) (table : Forest → 
   pub from : StandFromFirst piece
   pub start : at ≡ first_start piece
   pub tree : t ≡ relative piece
-  pub outcome : o ≡ expanded (numbered_world world) unnumbered (numbered_scope world.dialect before) depth t
+  pub outcome : o ≡ expanded (numbered_world world) unnumbered
+      (numbered_scope world.dialect before) depth t
 
 -- a piece of a text, plain or a definition
 abbrev pub IsKept : World Definition → ℕ → (Forest → ℕ → Type 0) → Kept → Type 0

@@ -1,5 +1,6 @@
 -- Homes of definitions: crates other than that of the text that is expanded.
-use Rattle.std.specs.Prelude.{ℕ, Bool, ◌&&◌, not, List, ◌++◌, chars, codes, Option, Some, None, if◌then◌else◌, refl}
+use Rattle.std.specs.Prelude.{ℕ, Bool, ◌&&◌, not, List, ◌++◌, chars, codes, Option, Some, None}
+use Rattle.std.specs.Prelude.{if◌then◌else◌, refl}
 use Rattle.std.specs.Coded.{Coded, code_by, coded×, coded_ℕ, coded_list}
 use Rattle.bridge.specs.Spelling.{is_rooted, root_mark}
 use Rattle.rustc_lexer.specs.Character.{is_ident}

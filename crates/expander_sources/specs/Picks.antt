@@ -1,5 +1,6 @@
 -- Definitions as preludes have them.
-use Rattle.std.specs.Prelude.{ℕ, Bool, List, [], codes, filter_map, not, Option, Some, None, unwrap_or, if◌then◌else◌}
+use Rattle.std.specs.Prelude.{ℕ, Bool, List, [], codes, filter_map, not, Option, Some, None}
+use Rattle.std.specs.Prelude.{unwrap_or, if◌then◌else◌}
 use Rattle.small_grammar.specs.Text.{◌>>=◌, ◌>>◌}
 use Rattle.tt.specs.Elements.{first_place}
 use Rattle.tt_data.specs.Forest.{Forest, empty, leaf, group, joined}

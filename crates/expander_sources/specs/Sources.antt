@@ -1,5 +1,7 @@
 -- Sources: texts that were read for their definitions.
-use Rattle.std.specs.Prelude.{ℕ, zero, suc, Bool, false, ◌&&◌, ◌||◌, List, [], ◌∷◌, ◌++◌, codes, flat_map, get_or, map, Option, Some, None, option_map, is_some, unwrap_or, Result, Ok, Err, if◌then◌else◌, refl}
+use Rattle.std.specs.Prelude.{ℕ, zero, suc, Bool, false, ◌&&◌, ◌||◌, List, [], ◌∷◌, ◌++◌, codes}
+use Rattle.std.specs.Prelude.{flat_map, get_or, map, Option, Some, None, option_map, is_some}
+use Rattle.std.specs.Prelude.{unwrap_or, Result, Ok, Err, if◌then◌else◌, refl}
 use Rattle.std.specs.Coded.{Coded, code_by, coded×, coded_ℕ, coded_list, coded_option}
 use Rattle.bridge.specs.Text.{is_char, same_kind}
 use Rattle.bridge.specs.declared.reading.outcome.ReadFault.{ReadFault}

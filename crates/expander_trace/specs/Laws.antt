@@ -1,5 +1,6 @@
 -- What the steps of trees say of their expansion. (Of this project.)
-use Rattle.std.specs.Prelude.{◌≡◌, ℕ, zero, suc, List, [], ◌∷◌, map, Option, Some, None, option_map, Result, Ok, Err}
+use Rattle.std.specs.Prelude.{◌≡◌, ℕ, zero, suc, List, [], ◌∷◌, map, Option, Some, None}
+use Rattle.std.specs.Prelude.{option_map, Result, Ok, Err}
 use Rattle.tt_data.specs.Forest.{Forest, empty, leaf, group, joined}
 use Rattle.tt_data.specs.Walk.{Step as Event}
 use Rattle.expander_model.specs.Calls.{other, Marked, none, token, inside, call, marked, unmarked}

@@ -1,5 +1,6 @@
 -- What a walk that looks for calls has still to pass, and what is added to a trace.
-use Rattle.std.specs.Prelude.{◌≡◌, ◌<◌, ◌+◌, ◌-◌, ℕ, List, [], ◌∷◌, ◌++◌, map, Option, Some, None, if◌then◌else◌}
+use Rattle.std.specs.Prelude.{◌≡◌, ◌<◌, ◌+◌, ◌-◌, ℕ, List, [], ◌∷◌, ◌++◌, map, Option, Some, None}
+use Rattle.std.specs.Prelude.{if◌then◌else◌}
 use Rattle.tt_data.specs.Forest.{Forest, size}
 use Rattle.expander_model.specs.Definitions.{Definition}
 use Rattle.expander_model.specs.Held.{Numbered, anchored_definition}

@@ -1,6 +1,7 @@
 -- The steps of trees: their calls from left to right, each before those in what it gives, with what
 -- its name finds and what comes of it. (Of this project.)
-use Rattle.std.specs.Prelude.{ℕ, zero, suc, Bool, true, ◌+◌, List, [], ◌∷◌, ◌++◌, Option, Some, None, is_some, Result, Ok, Err, if◌then◌else◌}
+use Rattle.std.specs.Prelude.{ℕ, zero, suc, Bool, true, ◌+◌, List, [], ◌∷◌, ◌++◌, Option, Some}
+use Rattle.std.specs.Prelude.{None, is_some, Result, Ok, Err, if◌then◌else◌}
 use Rattle.tt_data.specs.Forest.{Forest}
 use Rattle.tt_data.specs.declared.edition.Edition.{Edition}
 use Rattle.tt_data.specs.declared.span.Span.{Span}
@@ -9,12 +10,15 @@ use Rattle.mbe.specs.Fit as rules
 use Rattle.mbe.specs.Grammar.{Grammar}
 use Rattle.mbe.specs.Markers.{is_name}
 use Rattle.mbe.specs.PutOut as counted
-use Rattle.expander_model.specs.Calls.{other, Marked, none, token, inside, call, marked, unmarked, key_of}
+use Rattle.expander_model.specs.Calls.{other, Marked, none, token, inside, call, marked, unmarked}
+use Rattle.expander_model.specs.Calls.{key_of}
 use Rattle.expander_model.specs.Definitions.{Definition}
 use Rattle.expander_model.specs.Expansion.{whole_call}
 use Rattle.expander_model.specs.World.{made, rules_in}
 use Rattle.expander_model.specs.declared.fault.FaultKind.{FaultKind}
-use Rattle.expander_model.specs.declared.fault.FaultKind.TheVariants.{CannotExpand, BrokenDefinition, RecursionLimit}
+use Rattle.expander_model.specs.declared.fault.FaultKind.TheVariants.{CannotExpand}
+use Rattle.expander_model.specs.declared.fault.FaultKind.TheVariants.{BrokenDefinition}
+use Rattle.expander_model.specs.declared.fault.FaultKind.TheVariants.{RecursionLimit}
 use Rattle.call_expansion.specs.Around.{contains, place_of}
 use Rattle.call_expansion.specs.declared.around.CallPlace.{CallPlace}
 

@@ -1,6 +1,7 @@
 -- The traces of a text: the steps of its pieces, each in the scope of the definitions before it.
 -- (Of this project.)
-use Rattle.std.specs.Prelude.{◌≡◌, ℕ, Bool, true, false, ◌&&◌, ◌||◌, not, List, [], ◌∷◌, map, Option, Some, None, is_some, Result, Ok, Err, if◌then◌else◌}
+use Rattle.std.specs.Prelude.{◌≡◌, ℕ, Bool, true, false, ◌&&◌, ◌||◌, not, List, [], ◌∷◌, map}
+use Rattle.std.specs.Prelude.{Option, Some, None, is_some, Result, Ok, Err, if◌then◌else◌}
 use Rattle.tt_data.specs.Forest.{Forest}
 use Rattle.bridge.specs.declared.reading.outcome.ReadFault.{ReadFault}
 use Rattle.expander_model.specs.Definitions.{Definition, definition_of}

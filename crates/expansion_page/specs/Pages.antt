@@ -1,11 +1,13 @@
 -- The page of a reply to a text.
-use Rattle.std.specs.Prelude.{◌≡◌, ℕ, ◌≤◌, ◌^◌, List, [], ◌∷◌, Option, Some, None, if◌then◌else◌, length, map, nat_eq, string_bytes}
+use Rattle.std.specs.Prelude.{◌≡◌, ℕ, ◌≤◌, ◌^◌, List, [], ◌∷◌, Option, Some, None, if◌then◌else◌}
+use Rattle.std.specs.Prelude.{length, map, nat_eq, string_bytes}
 use Rattle.expander_model.specs.declared.fault.Fault.{Fault}
 use Rattle.expander_run.specs.Lines.{fault_words, line_of, read_fault_words}
 use Rattle.expander_run.specs.expander_session.Expanded.{Expanded}
 use Rattle.expander_run.specs.expander_session.declared.session.Reply.{Reply}
 use Rattle.expander_run.specs.expander_session.declared.session.Reply.TheVariants.{Read, Unread}
-use Rattle.expansion_page.specs.declared.frame.TheConstants.{COUNTS, EXPANSION, FAULTS, FOOT, HEAD, HEADING, SOURCE, UNREAD}
+use Rattle.expansion_page.specs.declared.frame.TheConstants.{COUNTS, EXPANSION, FAULTS, FOOT, HEAD}
+use Rattle.expansion_page.specs.declared.frame.TheConstants.{HEADING, SOURCE, UNREAD}
 use Rattle.html_code.specs.PageParts.{IsPage}
 use Rattle.html_code.specs.declared.origin.Origin.{Origin}
 use Rattle.html_code.specs.declared.origin.Origin.TheVariants.{Own, Other}

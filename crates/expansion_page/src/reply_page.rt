@@ -1,6 +1,7 @@
 //! The page of a reply to a text.
 ghost use Rattle.std.specs.Prelude.{◌≡◌, ◌<◌, ◌^◌, ℕ, List, [], IfOk, length, map, string_bytes};
-ghost use Rattle.expander_run.specs.expander_session.declared.session.Reply.TheVariants.{Read, Unread};
+ghost use Rattle.expander_run.specs.expander_session.declared.session.Reply.TheVariants.{Read};
+ghost use Rattle.expander_run.specs.expander_session.declared.session.Reply.TheVariants.{Unread};
 ghost use Rattle.expansion_page.specs.Pages.{IsFramed, IsNamedReplyPage, IsReplyPage, ShowsReply};
 ghost use Rattle.expansion_page.specs.Pages.{shown_origins};
 ghost use Rattle.html_code.specs.PageParts.{IsShort};

@@ -169,7 +169,8 @@ pub(crate) fn warned_of(
     cfg: &Option<CfgOptions>,
     trees: &TtIter<'_>,
 ) -> Result<Vec<Span>, AllocError>
-    ensures { IfOk result (λ spans. spans.items ≡ warned_of (option_map options_of cfg.now) trees.now) }
+    ensures { IfOk result (λ spans.
+        spans.items ≡ warned_of (option_map options_of cfg.now) trees.now) }
 {
     let mut spans = Vec::new(alloc);
     push_list(alloc, cfg, MOST_LISTS, trees, &mut spans)?;

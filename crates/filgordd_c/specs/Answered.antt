@@ -1,5 +1,6 @@
 -- What calls tell of the last answer, as C sees it.
-use Rattle.std.specs.Prelude.{◌≡◌, ℕ, ◌<◌, ◌≤◌, ◌^◌, ◌++◌, List, length, drop, map, slice_get, take, Option, Some, None}
+use Rattle.std.specs.Prelude.{◌≡◌, ℕ, ◌<◌, ◌≤◌, ◌^◌, ◌++◌, List, length, drop, map, slice_get}
+use Rattle.std.specs.Prelude.{take, Option, Some, None}
 use Rattle.tt_data.specs.declared.span.TextRange.{TextRange}
 use Rattle.bridge.specs.PrintedRanges.{read_ranges}
 use Rattle.bridge.specs.declared.reading.outcome.ReadFault.{ReadFault}

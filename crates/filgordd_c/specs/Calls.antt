@@ -1,11 +1,14 @@
 -- What the calls do to a session and its last answer, and what their codes mean.
-use Rattle.std.specs.Prelude.{◌≡◌, ℕ, ◌+◌, ◌-◌, ◌<◌, ◌≤◌, ◌^◌, List, [], length, Bool, ◌&&◌, Option, Some, None, IsUtf8, IsCharBoundary, ⊤, ◌⊎◌, true, false, nat_eq, if◌then◌else◌, option_map}
+use Rattle.std.specs.Prelude.{◌≡◌, ℕ, ◌+◌, ◌-◌, ◌<◌, ◌≤◌, ◌^◌, List, [], length, Bool, ◌&&◌}
+use Rattle.std.specs.Prelude.{Option, Some, None, IsUtf8, IsCharBoundary, ⊤, ◌⊎◌, true, false}
+use Rattle.std.specs.Prelude.{nat_eq, if◌then◌else◌, option_map}
 use Rattle.rustc_lexer.specs.Edit.{edited}
 use Rattle.any_grammar.specs.Answer.{answer}
 use Rattle.any_grammar.specs.declared.chosen.AnyGrammar.{AnyGrammar}
 use Rattle.any_grammar.specs.declared.chosen.AnyGrammar.TheVariants.{Small, Rust}
 use Rattle.tt_data.specs.declared.edition.Edition.{Edition}
-use Rattle.tt_data.specs.declared.edition.Edition.TheVariants.{Edition2015, Edition2018, Edition2021, Edition2024}
+use Rattle.tt_data.specs.declared.edition.Edition.TheVariants.{Edition2015, Edition2018}
+use Rattle.tt_data.specs.declared.edition.Edition.TheVariants.{Edition2021, Edition2024}
 use Rattle.bridge.specs.ReadText.{HasTooMany}
 use Rattle.bridge.specs.TokenSteps.{text_steps}
 use Rattle.bridge.specs.declared.reading.outcome.ReadFault.{ReadFault}

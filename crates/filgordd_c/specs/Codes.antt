@@ -3,7 +3,10 @@ use Rattle.std.specs.Prelude.{ℕ}
 use Rattle.expander_scope.specs.declared.refusal.Refusal.{Refusal}
 use Rattle.expander_scope.specs.declared.refusal.Refusal.TheVariants as why
 use Rattle.filgordd_c.specs.declared.code.Code.{Code}
-use Rattle.filgordd_c.specs.declared.code.Code.TheVariants.{Done, Unread, Memory, Tokens, Numbers, Closed, Utf8, Length, Edition, Grammar, Boundary, Range, Nothing, Index, Room, Root, Source, Scope, Cfg}
+use Rattle.filgordd_c.specs.declared.code.Code.TheVariants.{Done, Unread, Memory, Tokens, Numbers}
+use Rattle.filgordd_c.specs.declared.code.Code.TheVariants.{Closed, Utf8, Length, Edition, Grammar}
+use Rattle.filgordd_c.specs.declared.code.Code.TheVariants.{Boundary, Range, Nothing, Index, Room}
+use Rattle.filgordd_c.specs.declared.code.Code.TheVariants.{Root, Source, Scope, Cfg}
 
 abbrev pub number : Code → ℕ
 number Done = 0

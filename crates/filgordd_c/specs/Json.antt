@@ -1,5 +1,6 @@
 -- What the call for JSON tells of the last answer.
-use Rattle.std.specs.Prelude.{◌≡◌, ℕ, ◌<◌, ◌^◌, List, length, true, false, Option, Some, None, ⊤, ◌⊎◌}
+use Rattle.std.specs.Prelude.{◌≡◌, ℕ, ◌<◌, ◌^◌, List, length, true, false, Option, Some, None, ⊤}
+use Rattle.std.specs.Prelude.{◌⊎◌}
 use Rattle.serde_json.specs.Written.{compact_text}
 use Rattle.reply_json.specs.Lines.{expansion, unread}
 use Rattle.filgordd_c.specs.Answered.{Copied}

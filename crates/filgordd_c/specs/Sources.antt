@@ -1,5 +1,7 @@
 -- The sources of a session, and the preludes that are picked out of them.
-use Rattle.std.specs.Prelude.{◌≡◌, ℕ, suc, List, [], ◌∷◌, ◌++◌, Bool, ◌&&◌, not, Option, Some, None, ⊤, codes, flat_map, if◌then◌else◌, length, nat_eq, nat_lt, set, slice_get}
+use Rattle.std.specs.Prelude.{◌≡◌, ℕ, suc, List, [], ◌∷◌, ◌++◌, Bool, ◌&&◌, not, Option, Some}
+use Rattle.std.specs.Prelude.{None, ⊤, codes, flat_map, if◌then◌else◌, length, nat_eq, nat_lt, set}
+use Rattle.std.specs.Prelude.{slice_get}
 use Rattle.tt_data.specs.Forest.{Forest}
 use Rattle.tt_data.specs.fault.TtFault.TheVariants as fault
 use Rattle.symbols.specs.declared.fault.TtFault.{TtFault}

@@ -1,10 +1,12 @@
 -- The words for the numbers of codes and of faults, the version, and where a byte of a text is.
-use Rattle.std.specs.Prelude.{◌≡◌, ℕ, ◌<◌, ◌≤◌, ◌^◌, List, length, Option, Some, None, codes, nat_eq, nat_lt, if◌then◌else◌, option_map}
+use Rattle.std.specs.Prelude.{◌≡◌, ℕ, ◌<◌, ◌≤◌, ◌^◌, List, length, Option, Some, None, codes}
+use Rattle.std.specs.Prelude.{nat_eq, nat_lt, if◌then◌else◌, option_map}
 use Rattle.bridge.specs.declared.reading.outcome.ReadFaultKind.{ReadFaultKind}
 use Rattle.bridge.specs.declared.reading.outcome.ReadFaultKind.TheVariants as reads
 use Rattle.expander_model.specs.declared.fault.FaultKind.{FaultKind}
 use Rattle.expander_model.specs.declared.fault.FaultKind.TheVariants as kinds
-use Rattle.expander_run.specs.Lines.{column_at, fault_words, line_at, read_fault_words, refusal_words}
+use Rattle.expander_run.specs.Lines.{column_at, fault_words, line_at, read_fault_words}
+use Rattle.expander_run.specs.Lines.{refusal_words}
 use Rattle.expander_scope.specs.declared.refusal.Refusal.TheVariants as why
 use Rattle.filgordd_c.specs.Answered.{Copied}
 use Rattle.filgordd_c.specs.declared.code.Code.{Code}

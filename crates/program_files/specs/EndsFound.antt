@@ -1,5 +1,6 @@
 -- Ends of modules, as they are found token by token.
-use Rattle.std.specs.Prelude.{◌≡◌, ℕ, ◌+◌, ◌<◌, Bool, false, ◌&&◌, nat_eq, List, Option, Some, None, if◌then◌else◌}
+use Rattle.std.specs.Prelude.{◌≡◌, ℕ, ◌+◌, ◌<◌, Bool, false, ◌&&◌, nat_eq, List, Option, Some}
+use Rattle.std.specs.Prelude.{None, if◌then◌else◌}
 use Rattle.crate_walk.specs.WholeTexts.{has_semicolon}
 use Rattle.expander_run.specs.expander_session.Expanded.{Expanded}
 use Rattle.program_files.specs.ModuleEnds.{ComesFrom, IsEndBehind}

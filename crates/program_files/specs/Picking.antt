@@ -1,5 +1,6 @@
 -- Which definitions of libraries a text is expanded after. (Of this project.)
-use Rattle.std.specs.Prelude.{Bool, true, false, not, ◌&&◌, List, [], ◌∷◌, ◌++◌, codes, filter, flat_map, Option, Some, None}
+use Rattle.std.specs.Prelude.{Bool, true, false, not, ◌&&◌, List, [], ◌∷◌, ◌++◌, codes, filter}
+use Rattle.std.specs.Prelude.{flat_map, Option, Some, None}
 use Rattle.std.specs.Str.{bytes_eq}
 use Rattle.tt_data.specs.Forest.{Forest}
 use Rattle.expander_sources.specs.Homes.{Home}

@@ -1,6 +1,7 @@
 -- A text in a message. (The Unicode Standard, "Control Codes"; the Unicode Bidirectional Algorithm,
 -- "Directional Formatting Characters".)
-use Rattle.std.specs.Prelude.{ℕ, List, [], ◌∷◌, Bool, not, ◌&&◌, ◌||◌, ◌==◌, nat_lt, if◌then◌else◌, chars, encode_utf8_all}
+use Rattle.std.specs.Prelude.{ℕ, List, [], ◌∷◌, Bool, not, ◌&&◌, ◌||◌, ◌==◌, nat_lt, if◌then◌else◌}
+use Rattle.std.specs.Prelude.{chars, encode_utf8_all}
 use Rattle.std.specs.List.{flat_map}
 use Rattle.std.specs.Char.Escape.{escape_unicode}
 

@@ -1,7 +1,8 @@
 //! Which definitions of libraries a text is expanded after.
 ghost use Rattle.std.specs.Prelude.{◌≡◌, ◌<◌, ◌++◌, OnOk, flat_map, length};
 ghost use Rattle.expander_sources.specs.Sources.{item_at};
-ghost use Rattle.program_files.specs.Picking.{exports_of, is_exported, is_of, picks_at_side, picks_behind, picks_of_library};
+ghost use Rattle.program_files.specs.Picking.{exports_of, is_exported, is_of, picks_at_side};
+ghost use Rattle.program_files.specs.Picking.{picks_behind, picks_of_library};
 ghost use Rattle.crate_picks.specs.SourcePicks.{picks_of_source};
 
 use crate_picks::push_source;

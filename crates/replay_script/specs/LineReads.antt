@@ -1,10 +1,14 @@
 -- What a line of a script is read as.
-use Rattle.std.specs.Prelude.{◌≡◌, ◌≢◌, ◌<◌, ◌^◌, ◌++◌, Bool, List, Option, Result, Ok, Err, Some, ℕ, [], codes, length, option_map, string_bytes}
+use Rattle.std.specs.Prelude.{◌≡◌, ◌≢◌, ◌<◌, ◌^◌, ◌++◌, Bool, List, Option, Result, Ok, Err, Some}
+use Rattle.std.specs.Prelude.{ℕ, [], codes, length, option_map, string_bytes}
 use Rattle.expander_session.specs.declared.commands.Command.TheVariants.{Edit}
-use Rattle.replay_script.specs.Scripts.{HasLine, IsPick, IsWrong, IsWrongEdit, IsWrongLine, IsWrongPrelude, IsWrongSource, Says, SaysEdit, SaysSource}
+use Rattle.replay_script.specs.Scripts.{HasLine, IsPick, IsWrong, IsWrongEdit, IsWrongLine}
+use Rattle.replay_script.specs.Scripts.{IsWrongPrelude, IsWrongSource, Says, SaysEdit, SaysSource}
 use Rattle.replay_script.specs.Words.{Lists, unescaped, unescaped_behind}
 use Rattle.replay_script.specs.declared.line.Line.{Line}
-use Rattle.replay_script.specs.declared.line.Line.TheVariants.{Command as Commanding, Source as Reading, Prelude as Picking}
+use Rattle.replay_script.specs.declared.line.Line.TheVariants.{Command as Commanding}
+use Rattle.replay_script.specs.declared.line.Line.TheVariants.{Source as Reading}
+use Rattle.replay_script.specs.declared.line.Line.TheVariants.{Prelude as Picking}
 use Rattle.replay_script.specs.declared.line.Wrong.{Wrong}
 
 -- the bytes so far, before what the rest of a replacement means

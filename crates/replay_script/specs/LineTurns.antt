@@ -1,5 +1,6 @@
 -- What the steps of a script promise each other.
-use Rattle.std.specs.Prelude.{◌≡◌, ◌≢◌, ◌<◌, ◌^◌, ℕ, Bool, List, [], take, length, Option, None, Some, Result, Ok, Err, string_bytes, ⊤}
+use Rattle.std.specs.Prelude.{◌≡◌, ◌≢◌, ◌<◌, ◌^◌, ℕ, Bool, List, [], take, length, Option, None}
+use Rattle.std.specs.Prelude.{Some, Result, Ok, Err, string_bytes, ⊤}
 use Rattle.std.specs.Io.{StopsAt}
 use Rattle.std.specs.Io.KnownBytes.{IsAtEnd}
 use Rattle.expander_model.specs.Meaning.{Layers}
@@ -20,7 +21,8 @@ use Rattle.replay_script.specs.declared.line.Line.{Line}
 use Rattle.replay_script.specs.declared.line.Line.TheVariants as asked
 use Rattle.replay_script.specs.declared.line.Pick.{Pick}
 use Rattle.replay_script.specs.declared.script.End.{End}
-use Rattle.replay_script.specs.declared.script.End.TheVariants.{Whole, Wrong, ReadFailed, WriteFailed, Memory as NoMemory}
+use Rattle.replay_script.specs.declared.script.End.TheVariants.{Whole, Wrong, ReadFailed}
+use Rattle.replay_script.specs.declared.script.End.TheVariants.{WriteFailed, Memory as NoMemory}
 use Rattle.replay_script.specs.declared.sources.Sources.{Sources}
 
 -- what was read as the next line: its bytes up to the first line feed, or up to the end

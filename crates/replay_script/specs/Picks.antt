@@ -1,5 +1,6 @@
 -- Which definitions of sources a text is expanded after. (Of this project.)
-use Rattle.std.specs.Prelude.{ℕ, List, [], ◌∷◌, ◌++◌, Option, Some, None, flat_map, length, nat_eq, nat_lt, option_and_then, option_map, if◌then◌else◌}
+use Rattle.std.specs.Prelude.{ℕ, List, [], ◌∷◌, ◌++◌, Option, Some, None, flat_map, length, nat_eq}
+use Rattle.std.specs.Prelude.{nat_lt, option_and_then, option_map, if◌then◌else◌}
 use Rattle.tt_data.specs.Forest.{Forest}
 use Rattle.expander_sources.specs.Picks.{picked}
 use Rattle.expander_sources.specs.Sources.{Source, item_at}

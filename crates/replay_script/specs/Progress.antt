@@ -1,5 +1,6 @@
 -- The answers to the lines of a script, each by what the lines before it left. (Of this project.)
-use Rattle.std.specs.Prelude.{◌≡◌, ℕ, List, [], ◌∷◌, length, Option, Some, None, Result, Ok, Err, string_bytes, ⊤}
+use Rattle.std.specs.Prelude.{◌≡◌, ℕ, List, [], ◌∷◌, length, Option, Some, None, Result, Ok, Err}
+use Rattle.std.specs.Prelude.{string_bytes, ⊤}
 use Rattle.bridge.specs.ReadText as text_tokens
 use Rattle.bridge.specs.TokenSteps.{text_reading, text_steps}
 use Rattle.bridge.specs.declared.reading.outcome.ReadFault.{ReadFault}
@@ -8,17 +9,20 @@ use Rattle.expander_model.specs.Meaning.{Layers, ReadMeaning, meaning_in}
 use Rattle.expander_scope.specs.declared.refusal.Refusal.TheVariants.{Memory, Tokens, Numbers}
 use Rattle.expander_session.specs.Answers.{CanEdit, text_after}
 use Rattle.expander_session.specs.Count.{Looked}
-use Rattle.expander_session.specs.Replies.{IsReplyIn, NeedsNumbersIn, all_definitions, given_in, looked_in}
+use Rattle.expander_session.specs.Replies.{IsReplyIn, NeedsNumbersIn, all_definitions, given_in}
+use Rattle.expander_session.specs.Replies.{looked_in}
 use Rattle.expander_session.specs.State.{definitions_of}
 use Rattle.expander_session.specs.TooMany.{NeedsTooManyIn}
 use Rattle.expander_session.specs.declared.commands.Answer.{Answer}
-use Rattle.expander_session.specs.declared.commands.Answer.TheVariants.{Edited, BadEdit, Reply as Replied, Refused}
+use Rattle.expander_session.specs.declared.commands.Answer.TheVariants.{Edited, BadEdit}
+use Rattle.expander_session.specs.declared.commands.Answer.TheVariants.{Reply as Replied, Refused}
 use Rattle.expander_session.specs.declared.commands.Command.{Command}
 use Rattle.expander_session.specs.declared.commands.Command.TheVariants.{Edit, Expand}
 use Rattle.expander_session.specs.declared.session.Reply.TheVariants.{Read}
 use Rattle.expander_sources.specs.Homes.{Home}
 use Rattle.expander_sources.specs.Sources.{Source, source_items}
-use Rattle.replay_script.specs.Picks.{Picked, SourceTable, all_picked, count_of, prelude_of, with_source}
+use Rattle.replay_script.specs.Picks.{Picked, SourceTable, all_picked, count_of, prelude_of}
+use Rattle.replay_script.specs.Picks.{with_source}
 use Rattle.replay_script.specs.declared.answer.LineAnswer.{LineAnswer}
 use Rattle.replay_script.specs.declared.answer.LineAnswer.TheVariants as told
 use Rattle.replay_script.specs.declared.line.Line.{Line}

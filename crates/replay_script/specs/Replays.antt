@@ -1,5 +1,6 @@
 -- The answers to a script, line by line, and how it ends. (Of this project.)
-use Rattle.std.specs.Prelude.{◌≡◌, ◌≢◌, ℕ, ◌+◌, Bool, true, false, List, [], ◌++◌, length, take, Option, IfSome, codes, if◌then◌else◌, ⊤}
+use Rattle.std.specs.Prelude.{◌≡◌, ◌≢◌, ℕ, ◌+◌, Bool, true, false, List, [], ◌++◌, length, take}
+use Rattle.std.specs.Prelude.{Option, IfSome, codes, if◌then◌else◌, ⊤}
 use Rattle.std.specs.Io.KnownBytes.{Consumes}
 use Rattle.expander_model.specs.Meaning.{Layers}
 use Rattle.tt_data.specs.Forest.{Forest}

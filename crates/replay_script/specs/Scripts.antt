@@ -1,11 +1,15 @@
 -- What the lines of a script ask for. (Of this project.)
-use Rattle.std.specs.Prelude.{◌≡◌, ◌≢◌, ◌<◌, ◌≤◌, ◌^◌, ◌⊎◌, ℕ, List, [], ◌∷◌, ◌++◌, IsUtf8, Option, Some, None, codes, length, option_map, string_bytes}
+use Rattle.std.specs.Prelude.{◌≡◌, ◌≢◌, ◌<◌, ◌≤◌, ◌^◌, ◌⊎◌, ℕ, List, [], ◌∷◌, ◌++◌, IsUtf8, Option}
+use Rattle.std.specs.Prelude.{Some, None, codes, length, option_map, string_bytes}
 use Rattle.expander_session.specs.declared.commands.Command.{Command}
 use Rattle.expander_session.specs.declared.commands.Command.TheVariants.{Edit, Expand}
 use Rattle.expander_sources.specs.Homes.{Home}
-use Rattle.replay_script.specs.Words.{HasHome, HasNumber, IsNumber, Lacks, LacksNumber, Lists, unescaped}
+use Rattle.replay_script.specs.Words.{HasHome, HasNumber, IsNumber, Lacks, LacksNumber, Lists}
+use Rattle.replay_script.specs.Words.{unescaped}
 use Rattle.replay_script.specs.declared.line.Line.{Line}
-use Rattle.replay_script.specs.declared.line.Line.TheVariants.{Command as Commanding, Source as Reading, Prelude as Picking}
+use Rattle.replay_script.specs.declared.line.Line.TheVariants.{Command as Commanding}
+use Rattle.replay_script.specs.declared.line.Line.TheVariants.{Source as Reading}
+use Rattle.replay_script.specs.declared.line.Line.TheVariants.{Prelude as Picking}
 use Rattle.replay_script.specs.declared.line.Pick.{Pick}
 use Rattle.replay_script.specs.declared.line.Wrong.{Wrong}
 use Rattle.replay_script.specs.declared.line.Wrong.TheVariants as fault

@@ -1,15 +1,23 @@
 -- Answers as text. (Of this project.)
-use Rattle.std.specs.Prelude.{ℕ, Bool, List, [], ◌∷◌, ◌++◌, length, codes, decimal, flat_map, nat_eq, if◌then◌else◌}
+use Rattle.std.specs.Prelude.{ℕ, Bool, List, [], ◌∷◌, ◌++◌, length, codes, decimal, flat_map}
+use Rattle.std.specs.Prelude.{nat_eq, if◌then◌else◌}
 use Rattle.bridge.specs.declared.reading.outcome.ReadFault.{ReadFault}
 use Rattle.bridge.specs.declared.reading.outcome.ReadFaultKind.{ReadFaultKind}
-use Rattle.bridge.specs.declared.reading.outcome.ReadFaultKind.TheVariants.{BadToken, CloserDoesNotFit, GroupLeftOpen}
+use Rattle.bridge.specs.declared.reading.outcome.ReadFaultKind.TheVariants.{BadToken}
+use Rattle.bridge.specs.declared.reading.outcome.ReadFaultKind.TheVariants.{CloserDoesNotFit}
+use Rattle.bridge.specs.declared.reading.outcome.ReadFaultKind.TheVariants.{GroupLeftOpen}
 use Rattle.tt_data.specs.declared.span.TextRange.{TextRange}
 use Rattle.expander.specs.Expanded.{Expanded}
 use Rattle.expander_session.specs.declared.commands.Answer.{Answer}
-use Rattle.expander_session.specs.declared.commands.Answer.TheVariants.{Edited, BadEdit, Reply as Replied, Refused}
+use Rattle.expander_session.specs.declared.commands.Answer.TheVariants.{Edited, BadEdit}
+use Rattle.expander_session.specs.declared.commands.Answer.TheVariants.{Reply as Replied, Refused}
 use Rattle.expander_model.specs.declared.fault.Fault.{Fault}
 use Rattle.expander_model.specs.declared.fault.FaultKind.{FaultKind}
-use Rattle.expander_model.specs.declared.fault.FaultKind.TheVariants.{CannotExpand, BrokenDefinition, RecursionLimit, NestedDefinition, Unspellable, TooLarge}
+use Rattle.expander_model.specs.declared.fault.FaultKind.TheVariants.{CannotExpand}
+use Rattle.expander_model.specs.declared.fault.FaultKind.TheVariants.{BrokenDefinition}
+use Rattle.expander_model.specs.declared.fault.FaultKind.TheVariants.{RecursionLimit}
+use Rattle.expander_model.specs.declared.fault.FaultKind.TheVariants.{NestedDefinition}
+use Rattle.expander_model.specs.declared.fault.FaultKind.TheVariants.{Unspellable, TooLarge}
 use Rattle.expander_scope.specs.declared.refusal.Refusal.{Refusal}
 use Rattle.expander_scope.specs.declared.refusal.Refusal.TheVariants.{Memory, Tokens, Numbers}
 use Rattle.expander_session.specs.declared.session.Reply.TheVariants.{Read, Unread}

@@ -1,5 +1,6 @@
 -- What may be done with a call. (LSP 3.17, "Code Action Request" and "WorkspaceEdit".)
-use Rattle.std.specs.Prelude.{◌≡◌, ◌&&◌, ℕ, Bool, true, false, List, codes, length, ltb, nat_eq, string_bytes, Option, Some, None}
+use Rattle.std.specs.Prelude.{◌≡◌, ◌&&◌, ℕ, Bool, true, false, List, codes, length, ltb, nat_eq}
+use Rattle.std.specs.Prelude.{string_bytes, Option, Some, None}
 use Rattle.serde_json.specs.Data.{Data, array, no_items, item, object, string, member, no_members}
 use Rattle.bridge.specs.declared.printing.printer.Printed.{Printed}
 use Rattle.step_report.specs.expander_trace.call_expansion.declared.answer.Called.{Called}
@@ -22,7 +23,8 @@ action_data edit =
 -- an answer offers to put what came of a call, laid out, in the place of the call's bytes
 abbrev pub OffersTokens : (uri text : List ℕ) → Called → Printed → Data → Type 0
 OffersTokens uri text c p told = (laid : List ℕ) × IsLaidOut (string_bytes p.text) laid
-    × (told ≡ array (item (action_data (edit_data uri (range_data text c.place.range) laid)) no_items))
+    × (told ≡ array (item (action_data (edit_data uri (range_data text c.place.range) laid))
+    no_items))
 
 -- that is offered where something came of the call, and each token of it has a spelling
 abbrev pub is_whole : Printed → Bool

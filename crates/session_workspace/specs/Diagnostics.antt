@@ -1,6 +1,8 @@
 -- The diagnostics of a text. (LSP 3.17, "Diagnostic" and "PublishDiagnostics Notification".)
-use Rattle.std.specs.Prelude.{ℕ, ℤ, Bool, true, false, List, [], ◌∷◌, codes, filter, map, Result, Ok, Err}
-use Rattle.serde_json.specs.Data.{Data, array, no_items, number, object, string, member, no_members, unsigned}
+use Rattle.std.specs.Prelude.{ℕ, ℤ, Bool, true, false, List, [], ◌∷◌, codes, filter, map, Result}
+use Rattle.std.specs.Prelude.{Ok, Err}
+use Rattle.serde_json.specs.Data.{Data, array, no_items, number, object, string, member}
+use Rattle.serde_json.specs.Data.{no_members, unsigned}
 use Rattle.serde_json.specs.Find.{of_integer}
 use Rattle.serde_json.specs.View.{items_of}
 use Rattle.bridge.specs.declared.reading.outcome.ReadFault.{ReadFault}

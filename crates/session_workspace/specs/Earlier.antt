@@ -1,6 +1,7 @@
 -- Where a byte of a text was in an earlier text, which one replaced range made it of. (Of this
 -- project.)
-use Rattle.std.specs.Prelude.{ℕ, ◌-◌, List, drop, if◌then◌else◌, length, nat_eq, take, Option, Some, None}
+use Rattle.std.specs.Prelude.{ℕ, ◌-◌, List, drop, if◌then◌else◌, length, nat_eq, take, Option}
+use Rattle.std.specs.Prelude.{Some, None}
 use Rattle.std.specs.List.{ends_with, starts_with}
 
 -- the byte of an earlier text that one of a newer text comes from: the same one, where all before

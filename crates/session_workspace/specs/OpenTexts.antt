@@ -1,5 +1,7 @@
 -- The texts of a workspace, and what the client is sent for them. (Of this project.)
-use Rattle.std.specs.Prelude.{◌≡◌, ◌⊎◌, ◌<◌, ◌+◌, ◌++◌, ℕ, ℤ, Bool, true, false, List, [], ◌∷◌, bytes_eq, drop, if◌then◌else◌, length, map, string_bytes, take, Option, Some, None, option_map, Result, Ok, Err, ⊤}
+use Rattle.std.specs.Prelude.{◌≡◌, ◌⊎◌, ◌<◌, ◌+◌, ◌++◌, ℕ, ℤ, Bool, true, false, List, [], ◌∷◌}
+use Rattle.std.specs.Prelude.{bytes_eq, drop, if◌then◌else◌, length, map, string_bytes, take}
+use Rattle.std.specs.Prelude.{Option, Some, None, option_map, Result, Ok, Err, ⊤}
 use Rattle.serde_json.specs.Data.{Data}
 use Rattle.client_texts.specs.Params.{Change, Note, opened, edited, closed}
 use Rattle.client_texts.specs.Texts.{Document, after_edit}

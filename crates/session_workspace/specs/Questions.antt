@@ -1,18 +1,21 @@
 -- What a question about an open text is answered. (LSP 3.17, "Hover Request" and "Document Symbols
 -- Request"; "Expand Macro" of rust-analyzer.)
-use Rattle.std.specs.Prelude.{◌≡◌, ◌⊎◌, ◌<◌, ◌++◌, ◌^◌, ℕ, List, [], ◌∷◌, codes, Contains, IfSome, length, string_bytes, true, Option, Some, None, option_map, ⊤}
+use Rattle.std.specs.Prelude.{◌≡◌, ◌⊎◌, ◌<◌, ◌++◌, ◌^◌, ℕ, List, [], ◌∷◌, codes, Contains, IfSome}
+use Rattle.std.specs.Prelude.{length, string_bytes, true, Option, Some, None, option_map, ⊤}
 use Rattle.serde_json.specs.Data.{Data, null, object, string, member, no_members}
 use Rattle.any_grammar.specs.Answer.{answer}
 use Rattle.any_grammar.specs.declared.chosen.AnyGrammar.{AnyGrammar}
 use Rattle.bridge.specs.declared.printing.printer.Printed.{Printed}
-use Rattle.step_report.specs.expander_trace.call_expansion.Texts.{NeedsTooMany, answer_in, answer_near, text_layers}
+use Rattle.step_report.specs.expander_trace.call_expansion.Texts.{NeedsTooMany, answer_in}
+use Rattle.step_report.specs.expander_trace.call_expansion.Texts.{answer_near, text_layers}
 use Rattle.step_report.specs.expander_trace.call_expansion.declared.answer.Called.{Called}
 use Rattle.expander_model.specs.declared.fault.FaultKind.{FaultKind}
 use Rattle.expander_run.specs.Lines.{fault_words}
 use Rattle.expander_session.specs.State.{State, definitions_of}
 use Rattle.line_index.specs.declared.positions.Position.{Position}
 use Rattle.lsp_server.specs.declared.workspace.Question.{Question}
-use Rattle.lsp_server.specs.declared.workspace.Question.TheVariants.{Hover, Definition, Symbols, Expansion, Actions, Steps}
+use Rattle.lsp_server.specs.declared.workspace.Question.TheVariants.{Hover, Definition, Symbols}
+use Rattle.lsp_server.specs.declared.workspace.Question.TheVariants.{Expansion, Actions, Steps}
 use Rattle.session_workspace.specs.Actions.{OffersActions}
 use Rattle.session_workspace.specs.Layouts.{IsLaidOut}
 use Rattle.session_workspace.specs.Earlier.{byte_before}
@@ -57,7 +60,8 @@ IsSaidBefore s earlier place called =
 -- the name of a macro, and what came of a call of it
 abbrev pub expansion_data : (name laid : List ℕ) → Data
 expansion_data name laid =
-    object (member (codes "expansion") (string laid) (member (codes "name") (string name) no_members))
+    object (member (codes "expansion") (string laid)
+    (member (codes "name") (string name) no_members))
 
 -- an answer shows that, behind a text in front: nothing if the call stays
 abbrev pub ShowsTokens : (front : List ℕ) → Option Printed → Data → Type 0

@@ -1,5 +1,6 @@
 -- The steps of the call at a position, as a client is told of them. (Of this project; RFC 8259.)
-use Rattle.std.specs.Prelude.{◌≡◌, ◌≢◌, ◌⊎◌, ◌<◌, ◌++◌, ℕ, List, [], ◌∷◌, get_or, if◌then◌else◌, length, ltb, string_bytes, unwrap_or, Option, Some, None}
+use Rattle.std.specs.Prelude.{◌≡◌, ◌≢◌, ◌⊎◌, ◌<◌, ◌++◌, ℕ, List, [], ◌∷◌, get_or, if◌then◌else◌}
+use Rattle.std.specs.Prelude.{length, ltb, string_bytes, unwrap_or, Option, Some, None}
 use Rattle.serde_json.specs.Data.{Data, array, null}
 use Rattle.serde_json.specs.Read.{read}
 use Rattle.serde_json.specs.View.{items_of}

@@ -1,6 +1,8 @@
 -- The definitions of a text's top level, as a client is told of them. (LSP 3.17, "DocumentSymbol".)
-use Rattle.std.specs.Prelude.{◌≡◌, ◌⊎◌, ℕ, List, codes, filter_map, if◌then◌else◌, map, Option, Some, None, Ok, Err}
-use Rattle.serde_json.specs.Data.{Data, array, no_items, number, object, string, member, no_members, unsigned}
+use Rattle.std.specs.Prelude.{◌≡◌, ◌⊎◌, ℕ, List, codes, filter_map, if◌then◌else◌, map, Option}
+use Rattle.std.specs.Prelude.{Some, None, Ok, Err}
+use Rattle.serde_json.specs.Data.{Data, array, no_items, number, object, string, member}
+use Rattle.serde_json.specs.Data.{no_members, unsigned}
 use Rattle.serde_json.specs.View.{items_of}
 use Rattle.bridge.specs.ReadText.{HasTooMany}
 use Rattle.bridge.specs.TokenSteps.{text_reading, text_steps}

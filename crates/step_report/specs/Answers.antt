@@ -1,5 +1,6 @@
 -- What is told of the calls of a text. (Of this project.)
-use Rattle.std.specs.Prelude.{◌≡◌, ℕ, List, flat_map, map, Option, Some, None, Result, Ok, Err, string_bytes}
+use Rattle.std.specs.Prelude.{◌≡◌, ℕ, List, flat_map, map, Option, Some, None, Result, Ok, Err}
+use Rattle.std.specs.Prelude.{string_bytes}
 use Rattle.tt_data.specs.Forest.{Forest}
 use Rattle.tt_data.specs.declared.span.TextRange.{TextRange}
 use Rattle.bridge.specs.declared.reading.outcome.ReadFault.{ReadFault}
@@ -38,7 +39,8 @@ lines_in Text c range ps = flat_map (trace_lines c range) ps
 lines_in Json c range ps = json_lines c range ps
 
 -- these are told of traces
-pub record AreLinesOf (c : Context) (q : Question) (ps : List (Part Forest)) (l : Lines) : Type 0 where
+pub record AreLinesOf (c : Context) (q : Question) (ps : List (Part Forest)) (l : Lines)
+    : Type 0 where
   pub text : string_bytes l.text ≡ lines_in q.form c (range_of q.asked) ps
   pub stays : l.stays ≡ one_stays (range_of q.asked) ps
 

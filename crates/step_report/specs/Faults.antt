@@ -1,5 +1,6 @@
 -- Whether a call that is told of stays for a fault.
-use Rattle.std.specs.Prelude.{ℕ, Bool, true, false, List, not, Option, Some, None, is_some, Result, Ok, Err}
+use Rattle.std.specs.Prelude.{ℕ, Bool, true, false, List, not, Option, Some, None, is_some, Result}
+use Rattle.std.specs.Prelude.{Ok, Err}
 use Rattle.std.specs.List.{list_any}
 use Rattle.tt_data.specs.Forest.{Forest}
 use Rattle.tt_data.specs.declared.span.TextRange.{TextRange}

@@ -1,6 +1,7 @@
 -- Positions in a text by line and by column in characters, both from 1. (Of this project.) A text
 -- is its bytes in UTF-8.
-use Rattle.std.specs.Prelude.{ℕ, ◌+◌, List, Bool, ◌&&◌, ◌==◌, not, if◌then◌else◌, fold, nat_lt, take}
+use Rattle.std.specs.Prelude.{ℕ, ◌+◌, List, Bool, ◌&&◌, ◌==◌, not, if◌then◌else◌, fold, nat_lt}
+use Rattle.std.specs.Prelude.{take}
 use Rattle.step_report.specs.declared.positions.Position.{Position}
 
 -- a byte in a character that is not its first. (RFC 3629)

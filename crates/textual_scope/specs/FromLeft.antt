@@ -4,7 +4,8 @@ use Rattle.tt_data.specs.Forest.{Forest, empty, leaf, group}
 use Rattle.tt_data.specs.declared.delimiter.Delimiter.{Delimiter}
 use Rattle.tt_data.specs.declared.leaf.Leaf.{Leaf}
 use Rattle.tt_data.specs.declared.leaf.Punct.{Punct}
-use Rattle.expander_model.specs.Calls.{Path, bare, from_crate, other, is_bang_group, is_colons, is_root, marked}
+use Rattle.expander_model.specs.Calls.{Path, bare, from_crate, other, is_bang_group, is_colons}
+use Rattle.expander_model.specs.Calls.{is_root, marked}
 use Rattle.expander_model.specs.Definitions.{Definition}
 use Rattle.expander_model.specs.Expansion.{World}
 use Rattle.expander_model.specs.PieceStates.{after_leaf, after_group}
@@ -12,7 +13,8 @@ use Rattle.expander_model.specs.Pieces.{cut}
 use Rattle.expander_model.specs.declared.begun.Begun.{Begun}
 use Rattle.expander_model.specs.declared.begun.Begun.TheVariants.{Nothing}
 use Rattle.expander_model.specs.declared.dialect.Dialect.{Dialect}
-use Rattle.expander_model.specs.Scoping.{Around, Scoped, Search, Expander, and_next, search_trees, search_pieces}
+use Rattle.expander_model.specs.Scoping.{Around, Scoped, Search, Expander, and_next, search_trees}
+use Rattle.expander_model.specs.Scoping.{search_pieces}
 
 -- a tree before those of the first piece ahead
 abbrev pub with_leaf : Leaf → Forest × Forest → Forest × Forest

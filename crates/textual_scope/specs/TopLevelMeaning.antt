@@ -5,7 +5,8 @@ use Rattle.tt_data.specs.Forest.{Forest}
 use Rattle.bridge.specs.declared.reading.outcome.ReadFault.{ReadFault}
 use Rattle.expander_model.specs.Definitions.{Definition, definition_of, nearest}
 use Rattle.expander_model.specs.Expansion.{expansion}
-use Rattle.expander_model.specs.Meaning.{Layers, Member, plain, defining, ReadMeaning, with_definition, meaning_of}
+use Rattle.expander_model.specs.Meaning.{Layers, Member, plain, defining, ReadMeaning}
+use Rattle.expander_model.specs.Meaning.{with_definition, meaning_of}
 use Rattle.expander_model.specs.Pieces.{pieces}
 
 module _ (layers : Layers) (depth : ℕ) where
