@@ -1,12 +1,11 @@
 //! What is cached of a piece's output: its printed text if it can be a chunk, else its events.
-ghost use Rattle.std.specs.Prelude.{◌≡◌, ◌∷◌, [], ◌++◌, IfOk, IfSome, List, OnOk, map};
+ghost use Rattle.std.specs.Prelude.{◌≡◌, ◌∷◌, [], ◌++◌, IfOk, IfSome, List, OnOk};
 ghost use Rattle.bridge.specs.TokenEvents.{step_of};
 ghost use Rattle.expander_model.specs.Expansion.{PlacedStep, placed};
 ghost use Rattle.expander_session.specs.CachedOutputs.{HasPrinted, HasTaken, IsCachedText};
 ghost use Rattle.expander_session.specs.CachedOutputs.{IsOutputOf};
 ghost use Rattle.tt_data.specs.Forest.{Forest};
 ghost use Rattle.expander_session.specs.Emitting.{word_places};
-ghost use Rattle.expander_scope.specs.Outcomes.{placed_of};
 
 use bridge::Printer;
 use bridge::parts::{PrintedChunk, TokenEvent};
@@ -105,39 +104,6 @@ impl EventSink for OwnPrint {
     }
 }
 
-/// Events of a piece, printed as they come, and kept.
-#[derive(Drop)]
-pub(crate) struct KeptPrint {
-    pub own: OwnPrint,
-    pub steps: Vec<Event>,
-}
-
-impl EventSink for KeptPrint {
-    ghost use Rattle.std.specs.Prelude.{◌≡◌, length, map};
-    ghost use Rattle.expander_scope.specs.Outcomes.{placed_of};
-    ghost use Rattle.expander_session.specs.CachedOutputs.{HasTaken};
-
-    ghost has_taken = { λ kept taken. HasTaken kept.own taken
-        × (map placed_of kept.steps.items ≡ taken) };
-
-    ghost marks = { λ mark taken. length taken ≡ mark };
-
-    fn take(&mut self, step: &TokenEvent<'_>, outer: Option<Span>) -> Result<(), AllocError> {
-        self.own.take(step, outer)?;
-        self.steps.take(step, outer)?;
-        Ok(())
-    }
-
-    fn mark(&self) -> usize {
-        self.steps.mark()
-    }
-
-    fn take_back(&mut self, mark: usize) {
-        self.own.take_back(mark);
-        self.steps.take_back(mark);
-    }
-}
-
 // What was printed, as cached text. `None` if it is no chunk.
 fn part_of(own: OwnPrint) -> Result<Option<CachedText>, AllocError>
     ensures { IfOk result (λ o. IfSome o (λ part. (steps : List PlacedStep) →
@@ -166,18 +132,5 @@ pub(crate) fn output_of(alloc: Global, own: OwnPrint) -> Result<Option<CachedOut
     match part_of(own)? {
         Some(part) => Ok(Some(CachedOutput::Part(part))),
         None => Ok(None),
-    }
-}
-
-/// What to cache of events that were printed and kept: what `output_of` says, or else the events.
-pub(crate) fn kept_output_of(alloc: Global, kept: KeptPrint) -> Result<CachedOutput, AllocError>
-    ensures { IfOk result (λ output. (tree : Forest) (steps : List PlacedStep) →
-        HasTaken kept.own steps → map placed_of kept.steps.items ≡ steps →
-        IsOutputOf tree output steps) }
-{
-    let KeptPrint { own, steps } = kept;
-    match output_of(alloc, own)? {
-        Some(output) => Ok(output),
-        None => Ok(CachedOutput::Steps(Some(steps))),
     }
 }

@@ -6,19 +6,17 @@ ghost use Rattle.expander_scope.specs.ScopeTable.{AreRead, expanded_under};
 ghost use Rattle.expander_session.specs.CachedOutputs.{HasParts, Holds};
 ghost use Rattle.expander_session.specs.Memos.{tree_of};
 
-use crate::cached_output::{CachedOutput, KeptPrint, kept_output_of, nothing_printed, output_of};
+use crate::cached_output::{CachedOutput, nothing_printed, output_of};
 use crate::memo::Memo;
-use bridge::parts::TokenEvent;
 use expander_model::hashed_tree::HashedTree;
-use expander_model::tree_walk::TreeWalk;
 use expander_scope::environment::Environment;
 use expander_scope::expand::{expand_into, expand_piece};
 use expander_scope::outcome::{Expanding, Outcome};
 use mbe::FragmentGrammar;
-use std::alloc::{AllocError, Global};
+use std::alloc::Global;
 use std::rc::Rc;
 use tt::TopSubtree;
-use tt_data::{LeafRef, TtFault};
+use tt_data::TtFault;
 
 /// A memo with a reference count, so that texts can share it. Out of memory is its only error.
 pub(crate) fn shared(alloc: Global, plain: Memo) -> Result<Rc<Memo>, TtFault>
@@ -60,61 +58,6 @@ fn printed_output<G: FragmentGrammar>(
     }))
 }
 
-// Whether a tree has a quote in a group behind a `!`: a call may take the quote apart from the name
-// behind it, and then it has no spelling. It decides only how much time an expansion takes, and how
-// often the grammar is asked.
-fn may_part_quotes(alloc: Global, tree: &TopSubtree) -> Result<bool, AllocError> {
-    let mut is_behind_bang = false;
-    // How many groups are open, from one behind a `!` on.
-    let mut depth: usize = 0;
-    let mut rest = TreeWalk::new(alloc, &tree.iter());
-    while let Some(step) = rest.next()? {
-        let mark = match step {
-            TokenEvent::Leaf(LeafRef::Punct(punct)) => punct.char,
-            _ => ' ',
-        };
-        if mark == '\'' && depth > 0 {
-            return Ok(true);
-        }
-        match step {
-            TokenEvent::Opens(..) if is_behind_bang || depth > 0 => depth = depth.saturating_add(1),
-            TokenEvent::Closes(..) => depth = depth.saturating_sub(1),
-            _ => {}
-        }
-        is_behind_bang = mark == '!';
-    }
-    Ok(false)
-}
-
-// Expands a tree, prints the events as they come, and keeps them where what was printed is no
-// chunk.
-fn kept_output<G: FragmentGrammar>(
-    env: &Environment<'_, G>,
-    tree: &TopSubtree,
-) -> Result<Expanding<CachedOutput>, TtFault>
-    requires { AreRead env.now.scope.now }
-    ensures parts { IfOk result (λ given. HasParts tree.now.inner given (parts_of
-        (expanded_under (G.answer env.now.grammar.now) env.now.scope.now env.now.dialect.now
-        env.now.depth tree.now.inner))) }
-    ensures tokens { result ≡ Err TtFault.Tokens →
-        (expanded_under (G.answer env.now.grammar.now) env.now.scope.now env.now.dialect.now
-        env.now.depth tree.now.inner).bursts ≡ true }
-{
-    let own = nothing_printed(env.alloc, tree)?;
-    let steps = Vec::new(env.alloc);
-    let Expanding {
-        output,
-        faults,
-        finds,
-    } = expand_into(env, tree, KeptPrint { own, steps })?;
-    let output = kept_output_of(env.alloc, output)?;
-    Ok(Expanding {
-        output,
-        faults,
-        finds,
-    })
-}
-
 // Expands a tree. If `as_part` asks for it and the events print as a chunk, their text is its
 // output, else the events.
 fn output_to_cache<G: FragmentGrammar>(
@@ -130,14 +73,11 @@ fn output_to_cache<G: FragmentGrammar>(
         (expanded_under (G.answer env.now.grammar.now) env.now.scope.now env.now.dialect.now
         env.now.depth tree.now.inner).bursts ≡ true }
 {
-    if as_part && may_part_quotes(env.alloc, tree)? {
-        return kept_output(env, tree);
-    }
     if as_part && let Some(given) = printed_output(env, tree)? {
         return Ok(given);
     }
-    // Few other trees print what is no chunk. Only they are expanded a second time, which gives the
-    // same faults and look-ups.
+    // Few trees print what is no chunk. Only they are expanded a second time, which gives the same
+    // faults and look-ups.
     let Outcome {
         steps,
         faults,
