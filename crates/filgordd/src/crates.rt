@@ -3,6 +3,7 @@ ghost use Rattle.std.specs.Prelude.{◌<◌, ◌^◌, length};
 
 use crate::conditions::{cfg_of, under};
 use crate::layout::{Run, laid_out, run_in_memory};
+use crate::progress::Progress;
 use crate::view::reply_of;
 use crate::warnings::warn;
 use any_grammar::AnyGrammar;
@@ -254,14 +255,17 @@ fn expand_whole(
     job: &Job<'_>,
     whole: &Whole,
     files: &[Chosen],
+    progress: &mut Progress,
 ) -> Result<bool, Ended> {
     let mut texts = Vec::new(rt.alloc());
     let mut faultless = true;
     for (file, chosen) in files.iter().enumerate() {
+        progress.show(rt, file, files.len());
         let (own, is_faultless) = given_file(rt, job, whole, file, chosen.shown.as_str())?;
         texts.push(own)?;
         faultless &= is_faultless;
     }
+    progress.end(rt);
     let text = whole.walked.whole_text(rt.alloc(), texts.as_slice())?;
     if print_text(rt, job, text.as_slice())? {
         Ok(faultless)
@@ -320,11 +324,14 @@ fn answer_files(
     job: &Job<'_>,
     whole: &Whole,
     files: &[Chosen],
+    progress: &mut Progress,
 ) -> Result<bool, Ended> {
     let mut faultless = true;
-    for chosen in files {
+    for (done, chosen) in files.iter().enumerate() {
+        progress.show(rt, done, files.len());
         faultless &= answer_file(rt, job, whole, chosen)?;
     }
+    progress.end(rt);
     Ok(faultless)
 }
 
@@ -355,6 +362,7 @@ pub(crate) fn perform_crate(
     job: &Job<'_>,
     root: &str,
 ) -> Result<ExitCode, Ended> {
+    let mut progress = Progress::new(rt, !is_whole(job));
     let set = set_of(rt, job)?;
     let disk = Disk { rt, options: &set };
     let whole = walked(rt, job, &disk, root)?;
@@ -363,9 +371,9 @@ pub(crate) fn perform_crate(
     let words = job.files.as_slice();
     let files = chosen_files(rt.alloc(), &disk, modules, words, folder.as_str())?;
     let faultless = if is_whole(job) {
-        expand_whole(rt, job, &whole, files.as_slice())?
+        expand_whole(rt, job, &whole, files.as_slice(), &mut progress)?
     } else {
-        answer_files(rt, job, &whole, files.as_slice())?
+        answer_files(rt, job, &whole, files.as_slice(), &mut progress)?
     };
     Ok(if faultless {
         ExitCode::SUCCESS

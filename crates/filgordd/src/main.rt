@@ -11,6 +11,7 @@ mod json;
 mod layout;
 mod open_files;
 mod place;
+mod progress;
 mod server;
 mod start;
 mod trace;
