@@ -37,3 +37,18 @@ source_text() {
     done
     head -c 10000000 "$work/source" | iconv -f utf-8 -t utf-8 -c >"$work/text"
 }
+
+# A text of at least so many bytes, always the same: Rust without calls, or full of calls of a kind.
+text_of() {
+    case $1 in
+        rust) awk -v bytes="$2" -f "$top/bench/lexer/rust.awk" ;;
+        *) awk -v bytes="$2" -v kind="$1" -f "$top/bench/expand/calls.awk" ;;
+    esac
+}
+
+# The milliseconds of processor time of a command; what it writes is then in `$work/out` and `$work/told`.
+milliseconds() {
+    local user system
+    read -r user system <<<"$( { TIMEFORMAT='%3U %3S'; time "$@" >"$work/out" 2>"$work/told"; } 2>&1 )"
+    echo $(( 10#${user/./} + 10#${system/./} ))
+}

@@ -14,11 +14,10 @@ large=$(( 16 * small ))
 
 # The milliseconds of processor time of a command over the input; the least of three runs.
 least() {
-    local turn least= user system
+    local turn taken least=
     for turn in 1 2 3; do
-        read -r user system <<<"$( { TIMEFORMAT='%3U %3S'; time "$@" >"$work/out" 2>"$work/told"; } 2>&1 )"
-        user=$(( 10#${user/./} + 10#${system/./} ))
-        if [ -z "$least" ] || [ "$user" -lt "$least" ]; then least=$user; fi
+        taken=$(milliseconds "$@")
+        if [ -z "$least" ] || [ "$taken" -lt "$least" ]; then least=$taken; fi
     done
     echo "$least"
 }
@@ -50,8 +49,7 @@ sources() {
 text() {
     case $1 in
         sources) sources "$2" ;;
-        rust) awk -v bytes="$2" -f "$top/bench/lexer/rust.awk" ;;
-        *) awk -v bytes="$2" -v kind="$1" -f "$top/bench/expand/calls.awk" ;;
+        *) text_of "$@" ;;
     esac
 }
 
