@@ -3,7 +3,7 @@
 use crate::conditions::{cfg_of, under};
 use crate::crates::{CrateTexts, other_words, set_of, walked};
 use crate::open_files::OpenFiles;
-use crate::start::{root_in, started};
+use crate::start::{Start, started};
 use crate::uri::path_of;
 use any_grammar::AnyGrammar;
 use cfg_options::CfgOptions;
@@ -194,9 +194,8 @@ pub(crate) fn serve_editor(rt: &HostRuntime, job: &Job<'_>) -> Result<ExitCode, 
         Ok(first) => first,
         Err(stop) => return status_of(rt, Err(stop)),
     };
-    let root = root_in(rt, message.as_ref())?;
-    let root = root.as_ref().map(String::as_str);
-    let own = started(rt, job, message.as_ref(), root)?;
+    let start = Start::new(rt, message)?;
+    let own = started(rt, job, &start)?;
     let mut reader = bytes.as_slice().chain(input);
     serve(rt, &own, &mut reader)
 }

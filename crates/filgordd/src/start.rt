@@ -61,11 +61,8 @@ fn folder_in(message: Option<&Value>) -> Option<&str> {
     }
 }
 
-/// The root of the crate in the folder that an editor's first message names, if there is one.
-pub(crate) fn root_in(
-    rt: &HostRuntime,
-    message: Option<&Value>,
-) -> Result<Option<String>, AllocError> {
+// The root of the crate in the folder that a message names, if there is one.
+fn root_in(rt: &HostRuntime, message: Option<&Value>) -> Result<Option<String>, AllocError> {
     let Some(uri) = folder_in(message) else {
         return Ok(None);
     };
@@ -79,6 +76,21 @@ pub(crate) fn root_in(
         }
     }
     Ok(None)
+}
+
+/// An editor's first message, and the root of the crate in the folder that it names.
+#[derive(Drop)]
+pub(crate) struct Start {
+    message: Option<Value>,
+    root: Option<String>,
+}
+
+impl Start {
+    /// With this first message, if there is one.
+    pub(crate) fn new(rt: &HostRuntime, message: Option<Value>) -> Result<Start, AllocError> {
+        let root = root_in(rt, message.as_ref())?;
+        Ok(Start { message, root })
+    }
 }
 
 // The same options, of this edition.
@@ -106,15 +118,15 @@ fn edition_in(
     }
 }
 
-/// A job by an editor's first message, whose options count in place of the job's words; and with
-/// this root, where neither of them names one.
+/// A job by an editor's first message, whose options count in place of the job's words. Where
+/// neither of them names a root, it is that of the editor's folder.
 pub(crate) fn started<'a>(
     rt: &HostRuntime,
     job: &Job<'a>,
-    message: Option<&'a Value>,
-    root: Option<&'a str>,
+    start: &'a Start,
 ) -> Result<Job<'a>, Ended> {
-    let alloc = rt.alloc();
+    let (alloc, message) = (rt.alloc(), start.message.as_ref());
+    let root = start.root.as_ref().map(String::as_str);
     let edition = edition_in(rt, message, &job.options)?;
     Ok(Job {
         action: job.action,
