@@ -12,14 +12,15 @@ use test_grammars::{Counting, OneStep};
 
 // A text, an edit, the text printed afterwards, the faults with their ranges, and how often the
 // grammar is called before and after the edit: once for each fragment, except for those in pieces
-// that the text had before. In the last rows more calls have one tree than are searched one by one.
+// that the text had before, and twice where a token has no spelling. In the last rows more calls
+// have one tree than are searched one by one.
 type Row = (&'static str, (usize, usize, &'static str), &'static str);
 
 const ROWS: [Row; 10] = [
     (
         "macro_rules! t { ($x:ty $y:ident) => { $x z } } t!{'a}",
         (0, 0, ""),
-        "z ¦ Unspellable 48 49 ¦ 1",
+        "z ¦ Unspellable 48 49 ¦ 2",
     ),
     (
         "macro_rules! t { ($x:path $y:ident) => { $x z } } t!{'a}",
@@ -29,7 +30,7 @@ const ROWS: [Row; 10] = [
     (
         "macro_rules! t { ($x:path $y:ident) => { $x r#z } } t!{'a}",
         (0, 0, ""),
-        "r#z ¦ Unspellable 52 53 ¦ 1",
+        "r#z ¦ Unspellable 52 53 ¦ 2",
     ),
     (
         "macro_rules! t { ($x:expr) => { $x } } t!{1} t!{2}",

@@ -185,6 +185,17 @@ fn serve<R: Read>(rt: &HostRuntime, job: &Job<'_>, reader: &mut R) -> Result<Exi
     status_of(rt, end)
 }
 
+// Serves an editor on this input by a job, and by how the editor starts.
+fn serve_started<'a, R: Read>(
+    rt: &HostRuntime,
+    job: &'a Job<'a>,
+    start: &'a Start,
+    reader: &mut R,
+) -> Result<ExitCode, Ended> {
+    let own = started(rt, job, start)?;
+    serve(rt, &own, reader)
+}
+
 /// Serves an editor by a job, and by what its first message says in place of the job's words. The
 /// status is 0 only if the editor asked to shut down, and 2 where a word for `cfg` names no option,
 /// a word no edition, or a file cannot be read.
@@ -195,7 +206,6 @@ pub(crate) fn serve_editor(rt: &HostRuntime, job: &Job<'_>) -> Result<ExitCode, 
         Err(stop) => return status_of(rt, Err(stop)),
     };
     let start = Start::new(rt, message)?;
-    let own = started(rt, job, &start)?;
     let mut reader = bytes.as_slice().chain(input);
-    serve(rt, &own, &mut reader)
+    serve_started(rt, job, &start, &mut reader)
 }
